@@ -1,0 +1,162 @@
+use mathlib.Core.Path.{sym}
+use borrow.Author.Needs.{needs}
+use borrow.Author.Tests.{eq-eqb, ne-eqb}
+use Rattle.answer.specs.Answer.{told}
+use Rattle.answer.specs.Said.{replied, done}
+use Rattle.decoder.specs.Decode.{selectedOf}
+use Rattle.decoder.proofs.syspll_input.Statement.{statement}
+use Rattle.decoder.proofs.syspll_input.Tie as tie
+
+usbhs-pll-requires : tie.Need-usbhs-pll-requires
+usbhs-pll-requires c κs = search needs
+
+enum-known-n : tie.Need-enum-known-n
+enum-known-n c = search needs
+
+enum-told : tie.Need-enum-told
+enum-told c = search needs
+
+syspll-input-requires : tie.Need-syspll-input-requires
+syspll-input-requires c κs = search needs
+
+returns : tie.Need-returns
+unfolding selectedOf
+returns c =
+    let if1 = c .before .before .before .before .if1 in
+    let usbhs-pll = c .before .before .before .usbhs-pll in
+    simp (if1 .taken, told done (usbhs-pll .ensures) (c .before .n .given .1))
+
+returns-2 : tie.Need-returns-2
+unfolding selectedOf
+returns-2 c =
+    let if1 = c .before .before .before .before .if1 in
+    let usbhs-pll = c .before .before .before .usbhs-pll in
+    simp (
+      if1 .taken,
+      told done (usbhs-pll .ensures) (c .before .enum-told .given .1),
+      c .syspll-input .ensures,
+    )
+
+used-hse-requires : tie.Need-used-hse-requires
+used-hse-requires c κs = search needs
+
+eth-pll-requires : tie.Need-eth-pll-requires
+eth-pll-requires c κs = search needs
+
+enum-known-n-2 : tie.Need-enum-known-n-2
+enum-known-n-2 c = search needs
+
+enum-told-2 : tie.Need-enum-told-2
+enum-told-2 c = search needs
+
+syspll-input-requires-2 : tie.Need-syspll-input-requires-2
+syspll-input-requires-2 c κs = search needs
+
+returns-3 : tie.Need-returns-3
+unfolding selectedOf
+returns-3 c =
+    let if1 = c .before .before .before .before .before .before .if1 in
+    let if2 = c .before .before .before .before .before .if2 in
+    let used-hse = c .before .before .before .before .used-hse in
+    let eth-pll = c .before .before .before .eth-pll in
+    simp (
+      if1 .left,
+      if2 .taken,
+      sym (used-hse .ensures),
+      told done (eth-pll .ensures) (c .before .n2 .given .1),
+    )
+
+returns-4 : tie.Need-returns-4
+unfolding selectedOf
+returns-4 c =
+    let if1 = c .before .before .before .before .before .before .if1 in
+    let if2 = c .before .before .before .before .before .if2 in
+    let used-hse = c .before .before .before .before .used-hse in
+    let eth-pll = c .before .before .before .eth-pll in
+    simp (
+      if1 .left,
+      if2 .taken,
+      sym (used-hse .ensures),
+      told done (eth-pll .ensures) (c .before .enum-told2 .given .1),
+      c .syspll-input2 .ensures,
+    )
+
+used-hse-requires-2 : tie.Need-used-hse-requires-2
+used-hse-requires-2 c κs = search needs
+
+main-pll-requires : tie.Need-main-pll-requires
+main-pll-requires c κs = search needs
+
+enum-known-main : tie.Need-enum-known-main
+enum-known-main c = search needs
+
+enum-told-3 : tie.Need-enum-told-3
+enum-told-3 c = search needs
+
+returns-5 : tie.Need-returns-5
+unfolding selectedOf
+returns-5 c =
+    let if1 = c .before .before .before .before .before .before .if1 in
+    let if2 = c .before .before .before .before .before .if2 in
+    let if3 = c .before .before .before .before .if3 in
+    let used-hse2 = c .before .before .before .used-hse2 in
+    let main-pll = c .before .before .main-pll in
+    simp (
+      if1 .left,
+      if2 .left,
+      eq-eqb _ _ (if3 .taken),
+      sym (used-hse2 .ensures),
+      main-pll .ensures,
+      told replied (main-pll .ensures) (c .enum-told3 .given .1),
+    )
+
+syspll-input-requires-3 : tie.Need-syspll-input-requires-3
+syspll-input-requires-3 c κs = search needs
+
+returns-6 : tie.Need-returns-6
+unfolding selectedOf
+returns-6 c =
+    let if1 = c .before .before .before .before .before .before .before .before .if1 in
+    let if2 = c .before .before .before .before .before .before .before .if2 in
+    let if3 = c .before .before .before .before .before .before .if3 in
+    let used-hse2 = c .before .before .before .before .before .used-hse2 in
+    let main-pll = c .before .before .before .before .main-pll in
+    let main = c .before .before .main in
+    simp (
+      if1 .left,
+      if2 .left,
+      eq-eqb _ _ (if3 .taken),
+      sym (used-hse2 .ensures),
+      told replied (main-pll .ensures) (main .given .1),
+      c .syspll-input3 .ensures,
+    )
+
+returns-7 : tie.Need-returns-7
+unfolding selectedOf
+returns-7 c = simp (c .before .before .if1 .left, c .before .if2 .left, ne-eqb _ _ (c .if3 .left))
+
+pub syspll-input-spec : {M : Type 1} → statement M
+syspll-input-spec =
+    tie.close
+    (tie.spec
+    usbhs-pll-requires
+    enum-known-n
+    enum-told
+    syspll-input-requires
+    returns
+    returns-2
+    used-hse-requires
+    eth-pll-requires
+    enum-known-n-2
+    enum-told-2
+    syspll-input-requires-2
+    returns-3
+    returns-4
+    used-hse-requires-2
+    main-pll-requires
+    enum-known-main
+    enum-told-3
+    returns-5
+    syspll-input-requires-3
+    returns-6
+    returns-7)

@@ -1,0 +1,4 @@
+pub mod Facts
+pub mod Divide
+pub mod Table
+pub mod Laws

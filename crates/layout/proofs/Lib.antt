@@ -1,0 +1,5 @@
+pub mod Laws
+pub mod Reading
+pub mod RoundTrip
+pub mod Tests
+pub mod Writing

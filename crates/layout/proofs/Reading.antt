@@ -1,0 +1,111 @@
+-- Reading by bits is unpacking: the bits at a layout's places are the fields of the number that the bytes spell.
+-- Assumes nothing.
+use mathlib.Core.Path.{_≡_, refl, sym, ap, ap₂, _∙_}
+use mathlib.Core.Bool.{Bool, true, false, _&&_}
+use mathlib.Core.List.{List, [], _∷_}
+use Prim.Native.Nat.{ℕ, zero, suc, _+_, _-_, _*_, _/_, _%_, _^_, _<_, _≤_}
+use native.Mathlib.Nat.{mod-one, mod-eq-of-lt, pow-suc, mul-assoc, mul-add-div-right, mul-add-mod-self-right}
+use native.Mathlib.Numerals.{add-one}
+use native.Mathlib.Omega.{arith}
+use lib.ListN.{length, getD, length-replicate}
+use lib.Dec.{ltb, eqb}
+use lib.Pow.{pow-pos, pow-add, shr-shr, mod-pow-add}
+use lib.Arith.{digits-div}
+use Rattle.layout.specs.Layout.{total, unpack, pack, fitting, bytes, num, Bytes, packed, shifted}
+use Rattle.layout.specs.Bits.{bit, bitAt, bitsAt, cut}
+use Rattle.layout.proofs.Laws.{and-right, pack-lt, pack-unpack, unpack-pack, unpack-above, fitting-unpack, length-unpack, num-unpack, total-bytes}
+
+-- a bit and its number
+pub flag-of-bit : (b : Bool) → eqb (bit b) 1 ≡ b
+flag-of-bit true = refl
+flag-of-bit false = refl
+
+pub bit-fits : (b : Bool) → ltb (bit b) 2 ≡ true
+bit-fits true = refl
+bit-fits false = refl
+
+bit-below : (x : ℕ) → x < 2 → bit (eqb x 1) ≡ x
+bit-below zero h = refl
+bit-below (suc zero) h = refl
+bit-below (suc (suc n)) h = let z : ⊥ = omega arith in absurd z
+
+pub bit-of-flag : (x : ℕ) → bit (eqb (x % 2) 1) ≡ x % 2
+bit-of-flag x = bit-below (x % 2) (omega arith)
+
+-- n bits spell a number below 2 ^ n
+pub bits-lt : (s : List ℕ) (at n : ℕ) → bitsAt s at n < 2 ^ n
+unfolding bitsAt
+bits-lt s at zero = omega arith
+bits-lt s at (suc n) = let h = bits-lt s at n in rw pow-suc (omega arith)
+
+-- the bit q of the byte j is a bit of the number that the bytes spell
+bit-number : (s : List ℕ) → Bytes s → (j q r : ℕ) → q < 8 → 8 * j + q + 1 + r ≡ 8 * length s → getD s j 0 / 2 ^ (7 - q) % 2 ≡ num s / 2 ^ r % 2
+bit-number [] b j q r l h = absurd (omega arith)
+bit-number (x ∷ s) b zero q r l h =
+    let t = total (bytes (length s)) in
+    let k : num s < 2 ^ t = pack-lt (bytes (length s)) s (and-right (ltb x 256) (fitting (bytes (length s)) s) b) in
+    let e : t + (7 - q) ≡ r = omega (arith, total-bytes (length s)) in
+    let d : x / 2 ^ (7 - q) ≡ (x * 2 ^ t + num s) / 2 ^ r =
+    ap (λ (n : ℕ). n / 2 ^ (7 - q)) (sym (digits-div x k)) ∙ shr-shr (x * 2 ^ t + num s) t (7 - q) ∙ ap (λ (n : ℕ). (x * 2 ^ t + num s) / 2 ^ n) e in
+    ap (λ (n : ℕ). n % 2) d
+bit-number (x ∷ s) b (suc j) q r l h =
+    let t = total (bytes (length s)) in
+    let o = 8 * j + q in
+    let i : getD s j 0 / 2 ^ (7 - q) % 2 ≡ num s / 2 ^ r % 2 = bit-number s (and-right (ltb x 256) (fitting (bytes (length s)) s) b) j q r l (omega arith) in
+    let e : t ≡ o + (1 + r) = omega (arith, total-bytes (length s)) in
+    let p : x * 2 ^ t ≡ x * 2 ^ o * 2 * 2 ^ r =
+    ap (λ (n : ℕ). x * 2 ^ n) e ∙ ap (λ (n : ℕ). x * n) (pow-add 2 o (1 + r) ∙ ap (λ (n : ℕ). 2 ^ o * n) (pow-add 2 1 r)) ∙ sym (mul-assoc x (2 ^ o) (2 * 2 ^ r)) ∙ sym (mul-assoc (x * 2 ^ o) 2 (2 ^ r)) in
+    let d : (x * 2 ^ t + num s) / 2 ^ r ≡ x * 2 ^ o * 2 + num s / 2 ^ r =
+    ap (λ (n : ℕ). (n + num s) / 2 ^ r) p ∙ mul-add-div-right (pow-pos r) (x * 2 ^ o * 2) (num s) in
+    i ∙ sym (ap (λ (n : ℕ). n % 2) d ∙ mul-add-mod-self-right (x * 2 ^ o) 2 (num s / 2 ^ r))
+
+-- n bits of it
+pub bits-number : (s : List ℕ) → Bytes s → (at n r : ℕ) → at + n + r ≡ 8 * length s → bitsAt s at n ≡ num s / 2 ^ r % 2 ^ n
+unfolding bitsAt
+bits-number s b at zero r h = sym (mod-one (num s / 2 ^ r))
+bits-number s b at (suc n) r h =
+    let v = num s / 2 ^ r in
+    let i : bitsAt s at n ≡ num s / 2 ^ (r + 1) % 2 ^ n = bits-number s b at n (r + 1) (omega arith) in
+    let k : bitAt s (at + n) ≡ v % 2 = bit-number s b ((at + n) / 8) ((at + n) % 8) r (omega arith) (omega arith) in
+    ap₂ (λ (x y : ℕ). x * 2 + y) i k ∙ ap (λ (x : ℕ). x % 2 ^ n * 2 + v % 2) (sym (shr-shr (num s) r 1)) ∙ sym (mod-pow-add v n 1)
+    ∙ ap (λ (m : ℕ). v % 2 ^ m) (add-one n)
+
+-- the fields at a layout's places are those of the number
+cut-from : (ws s : List ℕ) → Bytes s → (at : ℕ) → at + total ws ≡ 8 * length s → cut ws s at ≡ unpack ws (num s)
+cut-from [] s b at h = refl
+cut-from (w ∷ ws) s b at h =
+    ap₂ (λ (x : ℕ) (l : List ℕ). x ∷ l) (bits-number s b at w (total ws) (omega arith)) (cut-from ws s b (at + w) (omega arith))
+
+module _ (ws : List ℕ) (n : ℕ) (whole : total ws ≡ 8 * n) where
+  pub cut-unpack : (s : List ℕ) → Bytes s → length s ≡ n → cut ws s 0 ≡ unpack ws (num s)
+  cut-unpack s b l = cut-from ws s b 0 (omega arith)
+
+  same-total : total ws ≡ total (bytes n)
+  same-total = whole ∙ sym (total-bytes n)
+
+  -- n bytes of a packed record are bytes
+  pub length-packed : (xs : List ℕ) → length (packed n ws xs) ≡ n
+  length-packed xs = length-unpack (bytes n) (pack ws xs) ∙ length-replicate n 8
+
+  pub packed-bytes : (xs : List ℕ) → Bytes (packed n ws xs)
+  packed-bytes xs = ap (λ (m : ℕ). fitting (bytes m) (packed n ws xs)) (length-packed xs) ∙ fitting-unpack (bytes n) (pack ws xs)
+
+  -- reading the fields after writing them
+  pub cut-packed : (xs : List ℕ) → fitting ws xs ≡ true → cut ws (packed n ws xs) 0 ≡ xs
+  cut-packed xs f =
+      let b : pack ws xs < 2 ^ total (bytes n) = rw same-total at (pack-lt ws xs f) in
+      cut-unpack (packed n ws xs) (packed-bytes xs) (length-packed xs) ∙ ap (unpack ws) (num-unpack n (pack ws xs) ∙ mod-eq-of-lt b) ∙ unpack-pack ws xs f
+
+  -- writing the fields after reading them
+  pub packed-unpack : (s : List ℕ) → Bytes s → length s ≡ n → packed n ws (unpack ws (num s)) ≡ s
+  packed-unpack s b l =
+      let e : num s ≡ pack (bytes n) s = ap (λ (m : ℕ). pack (bytes m) s) l in
+      let f : fitting (bytes n) s ≡ true = rw l at b in
+      let h : num s < 2 ^ total ws = rw (e, same-total) (pack-lt (bytes n) s f) in
+      ap (unpack (bytes n)) (pack-unpack ws (num s) ∙ mod-eq-of-lt h ∙ e) ∙ unpack-pack (bytes n) s f
+
+  -- shifted into n bytes, a record of as many bits leaves nothing of what they held
+  pub shifted-packed : (xs l : List ℕ) → length l ≡ n → shifted ws xs l ≡ packed n ws xs
+  shifted-packed xs l e =
+      ap (λ (m : ℕ). unpack (bytes m) (num l * 2 ^ total ws + pack ws xs)) e
+      ∙ ap (λ (m : ℕ). unpack (bytes n) (num l * 2 ^ m + pack ws xs)) same-total ∙ unpack-above (bytes n) (num l) (pack ws xs)

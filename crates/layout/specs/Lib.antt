@@ -1,0 +1,6 @@
+pub mod Bits
+pub mod Codec
+pub mod Layout
+pub mod Lent
+pub mod Stored
+pub mod Tests

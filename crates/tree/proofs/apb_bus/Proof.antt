@@ -1,0 +1,143 @@
+use mathlib.Core.Path.{sym}
+use Prim.Native.Nat.{_≤_}
+use native.Mathlib.Omega.{arith}
+use borrow.Author.Needs.{needs}
+use borrow.Author.Tests.{ne-eqb, eq-eqb}
+use Rattle.answer.specs.Answer.{told}
+use Rattle.answer.specs.Said.{replied}
+use Rattle.divider.specs.Laws.{apb-given, by-apb-twice}
+use Rattle.tree.specs.Tree.{busOf, timerClock}
+use Rattle.tree.proofs.apb_bus.Statement.{statement}
+use Rattle.tree.proofs.apb_bus.Tie as tie
+
+apb-requires : tie.Need-apb-requires
+apb-requires c κs = search needs
+
+enum-known-divisor : tie.Need-enum-known-divisor
+enum-known-divisor c = search needs
+
+enum-told : tie.Need-enum-told
+enum-told c = search needs
+
+refusal-requires : tie.Need-refusal-requires
+refusal-requires c κs = search needs
+
+returns : tie.Need-returns
+unfolding busOf
+returns c =
+    let apb = c .before .before .before .apb in
+    simp (
+      c .refusal .ensures,
+      c .before .enum-told .given .1,
+      told replied (apb .ensures) (c .before .enum-told .given .1),
+    )
+
+by-apb-requires : tie.Need-by-apb-requires
+by-apb-requires c κs = search needs
+
+enum-known-divided : tie.Need-enum-known-divided
+enum-known-divided c = search needs
+
+enum-told-2 : tie.Need-enum-told-2
+enum-told-2 c = search needs
+
+refusal-requires-2 : tie.Need-refusal-requires-2
+refusal-requires-2 c κs = search needs
+
+returns-2 : tie.Need-returns-2
+unfolding busOf
+returns-2 c =
+    let apb = c .before .before .before .before .before .before .before .apb in
+    let divisor = c .before .before .before .before .before .divisor in
+    let by-apb = c .before .before .before .by-apb in
+    simp (
+      c .refusal2 .ensures,
+      c .before .enum-told2 .given .1,
+      told replied (apb .ensures) (divisor .given .1),
+      told replied (by-apb .ensures) (c .before .enum-told2 .given .1),
+    )
+
+returns-3 : tie.Need-returns-3
+unfolding busOf timerClock
+returns-3 c =
+    let apb = c .before .before .before .before .before .before .before .before .apb in
+    let divisor = c .before .before .before .before .before .before .divisor in
+    let by-apb = c .before .before .before .before .by-apb in
+    let divided = c .before .before .divided in
+    simp (
+      told replied (apb .ensures) (divisor .given .1),
+      told replied (by-apb .ensures) (divided .given .1),
+      eq-eqb _ _ (c .if1 .taken),
+    )
+
+doubling-requires : tie.Need-doubling-requires
+doubling-requires c κs = search needs
+
+mul-t13 : tie.Need-mul-t13
+mul-t13 c =
+    let divisor = c .before .before .before .before .before .before .before .before .divisor in
+    let args = c .before .before .before .before .before .before .before .before .before .before .before .args in
+    let apb = c .before .before .before .before .before .before .before .before .before .before .apb in
+    let if1 = c .before .before .if1 in
+    let by-apb = c .before .before .before .before .before .before .by-apb in
+    let divided = c .before .before .before .before .divided in
+    let fits = c .before .before .before .before .before .before .before .before .before .before .before .fits in
+    let one : 1 ≤ (divisor .given .0 .0) = apb-given (args .code) (told replied (apb .ensures) (divisor .given .1)) .low in
+    let two : 2 ≤ (divisor .given .0 .0) = omega (arith, if1 .left, one) in
+    omega (
+      arith,
+      by-apb-twice (args .hclk) (args .code) (told replied (apb .ensures) (divisor .given .1)) (told replied (by-apb .ensures) (divided .given .1)) two,
+      fits .hclk,
+    )
+
+returns-4 : tie.Need-returns-4
+unfolding busOf timerClock
+returns-4 c =
+    let apb = c .before .before .before .before .before .before .before .before .before .before .apb in
+    let divisor = c .before .before .before .before .before .before .before .before .divisor in
+    let by-apb = c .before .before .before .before .before .before .by-apb in
+    let divided = c .before .before .before .before .divided in
+    let if1 = c .before .before .if1 in
+    simp (
+      told replied (apb .ensures) (divisor .given .1),
+      told replied (by-apb .ensures) (divided .given .1),
+      ne-eqb _ _ (if1 .left),
+      sym (c .before .doubling .ensures),
+      c .if2 .taken,
+    )
+
+returns-5 : tie.Need-returns-5
+unfolding busOf timerClock
+returns-5 c =
+    let apb = c .before .before .before .before .before .before .before .before .before .before .apb in
+    let divisor = c .before .before .before .before .before .before .before .before .divisor in
+    let by-apb = c .before .before .before .before .before .before .by-apb in
+    let divided = c .before .before .before .before .divided in
+    let if1 = c .before .before .if1 in
+    simp (
+      told replied (apb .ensures) (divisor .given .1),
+      told replied (by-apb .ensures) (divided .given .1),
+      ne-eqb _ _ (if1 .left),
+      sym (c .before .doubling .ensures),
+      c .if2 .left,
+    )
+
+pub apb-bus-spec : {M : Type 1} → statement M
+apb-bus-spec =
+    tie.close
+    (tie.spec
+    apb-requires
+    enum-known-divisor
+    enum-told
+    refusal-requires
+    returns
+    by-apb-requires
+    enum-known-divided
+    enum-told-2
+    refusal-requires-2
+    returns-2
+    returns-3
+    doubling-requires
+    mul-t13
+    returns-4
+    returns-5)

@@ -1,0 +1,50 @@
+use borrow.Author.Needs.{needs}
+use Rattle.answer.specs.Answer.{told}
+use Rattle.answer.specs.Said.{replied}
+use Rattle.tree.specs.Tree.{clocksOf}
+use Rattle.tree.proofs.bus_clocks.Statement.{statement}
+use Rattle.tree.proofs.bus_clocks.Tie as tie
+
+by-ahb-requires : tie.Need-by-ahb-requires
+by-ahb-requires c κs = search needs
+
+enum-known-divided : tie.Need-enum-known-divided
+enum-known-divided c = search needs
+
+enum-told : tie.Need-enum-told
+enum-told c = search needs
+
+refusal-requires : tie.Need-refusal-requires
+refusal-requires c κs = search needs
+
+returns : tie.Need-returns
+unfolding clocksOf
+returns c =
+    let by-ahb = c .before .before .before .by-ahb in
+    simp (
+      c .refusal .ensures,
+      c .before .enum-told .given .1,
+      told replied (by-ahb .ensures) (c .before .enum-told .given .1),
+    )
+
+below-hclk-requires : tie.Need-below-hclk-requires
+below-hclk-requires c κs = search needs
+
+returns-2 : tie.Need-returns-2
+unfolding clocksOf
+returns-2 c =
+    let by-ahb = c .before .before .before .before .by-ahb in
+    let divided = c .before .before .divided in
+    simp (told replied (by-ahb .ensures) (divided .given .1), c .below-hclk .ensures)
+
+pub bus-clocks-spec : {M : Type 1} → statement M
+bus-clocks-spec =
+    tie.close
+    (tie.spec
+    by-ahb-requires
+    enum-known-divided
+    enum-told
+    refusal-requires
+    returns
+    below-hclk-requires
+    returns-2)

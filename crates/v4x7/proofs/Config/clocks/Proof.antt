@@ -1,0 +1,205 @@
+use mathlib.Core.Path.{sym}
+use borrow.Author.Needs.{needs}
+use Rattle.answer.specs.Answer.{told}
+use Rattle.answer.specs.Said.{replied}
+use Rattle.tree.specs.Tree.{running}
+use Rattle.v4x7.specs.Check.{checkOf}
+use Rattle.v4x7.proofs.Config.clocks.Statement.{statement}
+use Rattle.v4x7.proofs.Config.clocks.Tie as tie
+
+named-codes-requires : tie.Need-named-codes-requires
+named-codes-requires c κs = search needs
+
+returns : tie.Need-returns
+unfolding checkOf
+returns c = simp (sym (c .before .named-codes .ensures), c .if1 .taken)
+
+sources-requires : tie.Need-sources-requires
+sources-requires c κs = search needs
+
+enum-known-sourced : tie.Need-enum-known-sourced
+enum-known-sourced c = search needs
+
+enum-told : tie.Need-enum-told
+enum-told c = search needs
+
+refusal-requires : tie.Need-refusal-requires
+refusal-requires c κs = search needs
+
+returns-2 : tie.Need-returns-2
+unfolding checkOf
+returns-2 c =
+    let named-codes = c .before .before .before .before .before .named-codes in
+    let if1 = c .before .before .before .before .if1 in
+    let sources = c .before .before .before .sources in
+    simp (
+      sym (named-codes .ensures),
+      if1 .left,
+      c .refusal .ensures,
+      c .before .enum-told .given .1,
+      told replied (sources .ensures) (c .before .enum-told .given .1),
+    )
+
+sysclk-requires : tie.Need-sysclk-requires
+sysclk-requires c κs = search needs
+
+enum-known-system : tie.Need-enum-known-system
+enum-known-system c = search needs
+
+enum-told-2 : tie.Need-enum-told-2
+enum-told-2 c = search needs
+
+refusal-requires-2 : tie.Need-refusal-requires-2
+refusal-requires-2 c κs = search needs
+
+returns-3 : tie.Need-returns-3
+unfolding checkOf
+returns-3 c =
+    let named-codes = c .before .before .before .before .before .before .before .before .before .named-codes in
+    let if1 = c .before .before .before .before .before .before .before .before .if1 in
+    let sources = c .before .before .before .before .before .before .before .sources in
+    let sourced = c .before .before .before .before .before .sourced in
+    let sysclk = c .before .before .before .sysclk in
+    simp (
+      sym (named-codes .ensures),
+      if1 .left,
+      told replied (sources .ensures) (sourced .given .1),
+      c .refusal2 .ensures,
+      c .before .enum-told2 .given .1,
+      told replied (sysclk .ensures) (c .before .enum-told2 .given .1),
+    )
+
+bus-clocks-requires : tie.Need-bus-clocks-requires
+bus-clocks-requires c κs = search needs
+
+enum-known-n : tie.Need-enum-known-n
+enum-known-n c = search needs
+
+enum-known-clocks : tie.Need-enum-known-clocks
+enum-known-clocks c = search needs
+
+adc-requires : tie.Need-adc-requires
+adc-requires c κs = search needs
+
+enum-known-sampled : tie.Need-enum-known-sampled
+enum-known-sampled c = search needs
+
+enum-told-3 : tie.Need-enum-told-3
+enum-told-3 c = search needs
+
+refusal-requires-3 : tie.Need-refusal-requires-3
+refusal-requires-3 c κs = search needs
+
+returns-4 : tie.Need-returns-4
+unfolding checkOf
+returns-4 c =
+    let named-codes = c .before .before .before .before .before .before .before .before .before .before .before .before .before .before .before .before .before .named-codes in
+    let if1 = c .before .before .before .before .before .before .before .before .before .before .before .before .before .before .before .before .if1 in
+    let sources = c .before .before .before .before .before .before .before .before .before .before .before .before .before .before .before .sources in
+    let sourced = c .before .before .before .before .before .before .before .before .before .before .before .before .before .sourced in
+    let sysclk = c .before .before .before .before .before .before .before .before .before .before .before .sysclk in
+    let system = c .before .before .before .before .before .before .before .before .before .system in
+    let bus-clocks = c .before .before .before .before .before .before .before .bus-clocks in
+    let clocks-at = c .before .before .before .before .before .clocks in
+    let adc = c .before .before .before .adc in
+    let named-codes = named-codes in
+    let if1 = if1 in
+    let sources = sources in
+    let sourced = sourced in
+    let sysclk = sysclk in
+    let system = system in
+    let bus-clocks = bus-clocks in
+    let clocks-at = clocks-at in
+    let adc = adc in
+    simp (
+      sym (named-codes .ensures),
+      if1 .left,
+      told replied (sources .ensures) (sourced .given .1),
+      told replied (sysclk .ensures) (system .given .1),
+      told running (bus-clocks .ensures) (clocks-at .given .1),
+      c .refusal3 .ensures,
+      c .before .enum-told3 .given .1,
+      told replied (adc .ensures) (c .before .enum-told3 .given .1),
+    )
+
+returns-5 : tie.Need-returns-5
+unfolding checkOf
+returns-5 c =
+    let named-codes = c .before .before .before .before .before .before .before .before .before .before .before .before .before .named-codes in
+    let if1 = c .before .before .before .before .before .before .before .before .before .before .before .before .if1 in
+    let sources = c .before .before .before .before .before .before .before .before .before .before .before .sources in
+    let sourced = c .before .before .before .before .before .before .before .before .before .sourced in
+    let sysclk = c .before .before .before .before .before .before .before .sysclk in
+    let system = c .before .before .before .before .before .system in
+    let bus-clocks = c .before .before .before .bus-clocks in
+    let named-codes = named-codes in
+    let if1 = if1 in
+    let sources = sources in
+    let sourced = sourced in
+    let sysclk = sysclk in
+    let system = system in
+    let bus-clocks = bus-clocks in
+    simp (
+      sym (named-codes .ensures),
+      if1 .left,
+      told replied (sources .ensures) (sourced .given .1),
+      told replied (sysclk .ensures) (system .given .1),
+      told running (bus-clocks .ensures) (c .before .n .given .1),
+    )
+
+returns-6 : tie.Need-returns-6
+unfolding checkOf
+returns-6 c =
+    let named-codes = c .before .before .before .before .before .before .before .before .before .before .before .before .before .before .before .before .before .named-codes in
+    let if1 = c .before .before .before .before .before .before .before .before .before .before .before .before .before .before .before .before .if1 in
+    let sources = c .before .before .before .before .before .before .before .before .before .before .before .before .before .before .before .sources in
+    let sourced = c .before .before .before .before .before .before .before .before .before .before .before .before .before .sourced in
+    let sysclk = c .before .before .before .before .before .before .before .before .before .before .before .sysclk in
+    let system = c .before .before .before .before .before .before .before .before .before .system in
+    let bus-clocks = c .before .before .before .before .before .before .before .bus-clocks in
+    let clocks-at = c .before .before .before .before .before .clocks in
+    let adc = c .before .before .before .adc in
+    let named-codes = named-codes in
+    let if1 = if1 in
+    let sources = sources in
+    let sourced = sourced in
+    let sysclk = sysclk in
+    let system = system in
+    let bus-clocks = bus-clocks in
+    let clocks-at = clocks-at in
+    let adc = adc in
+    simp (
+      sym (named-codes .ensures),
+      if1 .left,
+      told replied (sources .ensures) (sourced .given .1),
+      told replied (sysclk .ensures) (system .given .1),
+      told running (bus-clocks .ensures) (clocks-at .given .1),
+      told replied (adc .ensures) (c .before .sampled .given .1),
+    )
+
+pub clocks-spec : {M : Type 1} → statement M
+clocks-spec =
+    tie.close
+    (tie.spec
+    named-codes-requires
+    returns
+    sources-requires
+    enum-known-sourced
+    enum-told
+    refusal-requires
+    returns-2
+    sysclk-requires
+    enum-known-system
+    enum-told-2
+    refusal-requires-2
+    returns-3
+    bus-clocks-requires
+    enum-known-n
+    enum-known-clocks
+    adc-requires
+    enum-known-sampled
+    enum-told-3
+    refusal-requires-3
+    returns-4
+    returns-5
+    returns-6)

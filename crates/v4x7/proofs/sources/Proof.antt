@@ -1,0 +1,182 @@
+use borrow.Author.Needs.{needs}
+use Rattle.answer.specs.Answer.{told}
+use Rattle.answer.specs.Said.{replied, done}
+use Rattle.v4x7.specs.Check.{sourcesOf}
+use Rattle.v4x7.proofs.sources.Statement.{statement}
+use Rattle.v4x7.proofs.sources.Tie as tie
+
+rng-requires : tie.Need-rng-requires
+rng-requires c κs = search needs
+
+enum-known-n : tie.Need-enum-known-n
+enum-known-n c = search needs
+
+returns : tie.Need-returns
+unfolding sourcesOf
+returns c = simp (told done (c .before .before .before .rng .ensures) (c .before .n .given .1))
+
+enum-told : tie.Need-enum-told
+enum-told c = search needs
+
+hse-present-requires : tie.Need-hse-present-requires
+hse-present-requires c κs = search needs
+
+enum-known-n-2 : tie.Need-enum-known-n-2
+enum-known-n-2 c = search needs
+
+returns-2 : tie.Need-returns-2
+unfolding sourcesOf
+returns-2 c =
+    let rng = c .before .before .before .before .before .before .rng in
+    let enum-told = c .before .before .before .before .enum-told in
+    let hse-present = c .before .before .before .hse-present in
+    simp (
+      told done (rng .ensures) (enum-told .given .1),
+      told done (hse-present .ensures) (c .before .n2 .given .1),
+    )
+
+enum-told-2 : tie.Need-enum-told-2
+enum-told-2 c = search needs
+
+main-pll-requires : tie.Need-main-pll-requires
+main-pll-requires c κs = search needs
+
+enum-known-main : tie.Need-enum-known-main
+enum-known-main c = search needs
+
+enum-told-3 : tie.Need-enum-told-3
+enum-told-3 c = search needs
+
+returns-3 : tie.Need-returns-3
+unfolding sourcesOf
+returns-3 c =
+    let rng = c .before .before .before .before .before .before .before .before .rng in
+    let enum-told = c .before .before .before .before .before .before .enum-told in
+    let hse-present = c .before .before .before .before .before .hse-present in
+    let enum-told2 = c .before .before .before .enum-told2 in
+    let main-pll = c .before .before .main-pll in
+    simp (
+      told done (rng .ensures) (enum-told .given .1),
+      told done (hse-present .ensures) (enum-told2 .given .1),
+      main-pll .ensures,
+      told replied (main-pll .ensures) (c .enum-told3 .given .1),
+    )
+
+eth-requires : tie.Need-eth-requires
+eth-requires c κs = search needs
+
+enum-known-n-3 : tie.Need-enum-known-n-3
+enum-known-n-3 c = search needs
+
+returns-4 : tie.Need-returns-4
+unfolding sourcesOf
+returns-4 c =
+    let rng = c .before .before .before .before .before .before .before .before .before .before .before .before .before .rng in
+    let enum-told = c .before .before .before .before .before .before .before .before .before .before .before .enum-told in
+    let hse-present = c .before .before .before .before .before .before .before .before .before .before .hse-present in
+    let enum-told2 = c .before .before .before .before .before .before .before .before .enum-told2 in
+    let main-pll = c .before .before .before .before .before .before .before .main-pll in
+    let main = c .before .before .before .before .before .main in
+    let eth = c .before .before .before .eth in
+    simp (
+      told done (rng .ensures) (enum-told .given .1),
+      told done (hse-present .ensures) (enum-told2 .given .1),
+      told replied (main-pll .ensures) (main .given .1),
+      told done (eth .ensures) (c .before .n3 .given .1),
+    )
+
+enum-told-4 : tie.Need-enum-told-4
+enum-told-4 c = search needs
+
+usbhs-requires : tie.Need-usbhs-requires
+usbhs-requires c κs = search needs
+
+enum-known-n-4 : tie.Need-enum-known-n-4
+enum-known-n-4 c = search needs
+
+returns-5 : tie.Need-returns-5
+unfolding sourcesOf
+returns-5 c =
+    let rng = c .before .before .before .before .before .before .before .before .before .before .before .before .before .before .before .before .rng in
+    let enum-told = c .before .before .before .before .before .before .before .before .before .before .before .before .before .before .enum-told in
+    let hse-present = c .before .before .before .before .before .before .before .before .before .before .before .before .before .hse-present in
+    let enum-told2 = c .before .before .before .before .before .before .before .before .before .before .before .enum-told2 in
+    let main-pll = c .before .before .before .before .before .before .before .before .before .before .main-pll in
+    let main = c .before .before .before .before .before .before .before .before .main in
+    let eth = c .before .before .before .before .before .before .eth in
+    let enum-told4 = c .before .before .before .before .enum-told4 in
+    let usbhs = c .before .before .before .usbhs in
+    let rng = rng in
+    let enum-told = enum-told in
+    let hse-present = hse-present in
+    let enum-told2 = enum-told2 in
+    let main-pll = main-pll in
+    let main = main in
+    let eth = eth in
+    let enum-told4 = enum-told4 in
+    let usbhs = usbhs in
+    simp (
+      told done (rng .ensures) (enum-told .given .1),
+      told done (hse-present .ensures) (enum-told2 .given .1),
+      told replied (main-pll .ensures) (main .given .1),
+      told done (eth .ensures) (enum-told4 .given .1),
+      told done (usbhs .ensures) (c .before .n4 .given .1),
+    )
+
+enum-told-5 : tie.Need-enum-told-5
+enum-told-5 c = search needs
+
+returns-6 : tie.Need-returns-6
+unfolding sourcesOf
+returns-6 c =
+    let rng = c .before .before .before .before .before .before .before .before .before .before .before .before .before .before .before .rng in
+    let enum-told = c .before .before .before .before .before .before .before .before .before .before .before .before .before .enum-told in
+    let hse-present = c .before .before .before .before .before .before .before .before .before .before .before .before .hse-present in
+    let enum-told2 = c .before .before .before .before .before .before .before .before .before .before .enum-told2 in
+    let main-pll = c .before .before .before .before .before .before .before .before .before .main-pll in
+    let main = c .before .before .before .before .before .before .before .main in
+    let eth = c .before .before .before .before .before .eth in
+    let enum-told4 = c .before .before .before .enum-told4 in
+    let usbhs = c .before .before .usbhs in
+    let rng = rng in
+    let enum-told = enum-told in
+    let hse-present = hse-present in
+    let enum-told2 = enum-told2 in
+    let main-pll = main-pll in
+    let main = main in
+    let eth = eth in
+    let enum-told4 = enum-told4 in
+    let usbhs = usbhs in
+    simp (
+      told done (rng .ensures) (enum-told .given .1),
+      told done (hse-present .ensures) (enum-told2 .given .1),
+      told replied (main-pll .ensures) (main .given .1),
+      told done (eth .ensures) (enum-told4 .given .1),
+      told done (usbhs .ensures) (c .enum-told5 .given .1),
+    )
+
+pub sources-spec : {M : Type 1} → statement M
+sources-spec =
+    tie.close
+    (tie.spec
+    rng-requires
+    enum-known-n
+    returns
+    enum-told
+    hse-present-requires
+    enum-known-n-2
+    returns-2
+    enum-told-2
+    main-pll-requires
+    enum-known-main
+    enum-told-3
+    returns-3
+    eth-requires
+    enum-known-n-3
+    returns-4
+    enum-told-4
+    usbhs-requires
+    enum-known-n-4
+    returns-5
+    enum-told-5
+    returns-6)

@@ -1,0 +1,74 @@
+use borrow.Author.Needs.{needs}
+use borrow.Author.Tests.{eq-eqb, ne-eqb}
+use Rattle.answer.specs.Answer.{told}
+use Rattle.answer.specs.Said.{replied}
+use Rattle.v4x7.specs.Check.{sysclkOf}
+use Rattle.v4x7.proofs.sysclk.Statement.{statement}
+use Rattle.v4x7.proofs.sysclk.Tie as tie
+
+returns : tie.Need-returns
+unfolding sysclkOf
+returns c = simp (eq-eqb _ _ (c .if1 .taken))
+
+needed-hse-requires : tie.Need-needed-hse-requires
+needed-hse-requires c κs = search needs
+
+returns-2 : tie.Need-returns-2
+unfolding sysclkOf
+returns-2 c =
+    let if1 = c .before .before .before .if1 in
+    let if1 = if1 in
+    simp (ne-eqb _ _ (if1 .left), eq-eqb _ _ (c .before .if2 .taken), c .needed-hse .ensures)
+
+syspll-input-requires : tie.Need-syspll-input-requires
+syspll-input-requires c κs = search needs
+
+enum-known-input : tie.Need-enum-known-input
+enum-known-input c = search needs
+
+enum-told : tie.Need-enum-told
+enum-told c = search needs
+
+returns-3 : tie.Need-returns-3
+unfolding sysclkOf
+returns-3 c =
+    let if1 = c .before .before .before .before .before .if1 in
+    let if2 = c .before .before .before .if2 in
+    let syspll-input = c .before .before .syspll-input in
+    simp (
+      ne-eqb _ _ (if1 .left),
+      ne-eqb _ _ (if2 .left),
+      syspll-input .ensures,
+      told replied (syspll-input .ensures) (c .enum-told .given .1),
+    )
+
+by-one-more-requires : tie.Need-by-one-more-requires
+by-one-more-requires c κs = search needs
+
+returns-4 : tie.Need-returns-4
+unfolding sysclkOf
+returns-4 c =
+    let if1 = c .before .before .before .before .before .before .before .if1 in
+    let if2 = c .before .before .before .before .before .if2 in
+    let syspll-input = c .before .before .before .before .syspll-input in
+    let input = c .before .before .input in
+    simp (
+      ne-eqb _ _ (if1 .left),
+      ne-eqb _ _ (if2 .left),
+      told replied (syspll-input .ensures) (input .given .1),
+      c .by-one-more .ensures,
+    )
+
+pub sysclk-spec : {M : Type 1} → statement M
+sysclk-spec =
+    tie.close
+    (tie.spec
+    returns
+    needed-hse-requires
+    returns-2
+    syspll-input-requires
+    enum-known-input
+    enum-told
+    returns-3
+    by-one-more-requires
+    returns-4)

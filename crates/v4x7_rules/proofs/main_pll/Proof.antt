@@ -1,0 +1,89 @@
+use mathlib.Core.Path.{sym}
+use native.Mathlib.Omega.{arith}
+use borrow.Author.Needs.{needs}
+use borrow.Author.Tests.{le-leb, lt-leb, ltb-false}
+use lib.Dec.{ltb}
+use Rattle.answer.specs.Answer.{told}
+use Rattle.answer.specs.Said.{replied}
+use Rattle.divider.specs.Facts.{neither}
+use Rattle.v4x7_rules.specs.Rules.{mainPllOf}
+use Rattle.v4x7_rules.proofs.main_pll.Statement.{statement}
+use Rattle.v4x7_rules.proofs.main_pll.Tie as tie
+
+returns : tie.Need-returns
+unfolding mainPllOf
+returns c = simp (le-leb _ _ (c .if1 .taken))
+
+pll-input-requires : tie.Need-pll-input-requires
+pll-input-requires c κs = search needs
+
+enum-known-input : tie.Need-enum-known-input
+enum-known-input c = search needs
+
+enum-told : tie.Need-enum-told
+enum-told c = search needs
+
+returns-2 : tie.Need-returns-2
+unfolding mainPllOf
+returns-2 c =
+    let if1 = c .before .before .before .if1 in
+    let pll-input = c .before .before .pll-input in
+    simp (
+      lt-leb _ _ (if1 .left),
+      pll-input .ensures,
+      told replied (pll-input .ensures) (c .enum-told .given .1),
+    )
+
+array-read-product : tie.Need-array-read-product
+array-read-product c = search needs
+
+product-requires : tie.Need-product-requires
+product-requires c κs = search needs
+
+returns-3 : tie.Need-returns-3
+unfolding mainPllOf
+returns-3 c =
+    let if1 = c .before .before .before .before .before .before .if1 in
+    let pll-input = c .before .before .before .before .before .pll-input in
+    let input = c .before .before .before .input in
+    simp (
+      lt-leb _ _ (if1 .left),
+      told replied (pll-input .ensures) (input .given .1),
+      sym (c .before .product .ensures),
+      c .if2 .taken,
+    )
+
+cast-t15 : tie.Need-cast-t15
+cast-t15 c =
+    omega (
+      arith,
+      ltb-false 400000000 (c .before .product .result) (neither (ltb (c .before .product .result) 100000000) (ltb 400000000 (c .before .product .result)) (c .if2 .left) .1),
+    )
+
+returns-4 : tie.Need-returns-4
+unfolding mainPllOf
+returns-4 c =
+    let if1 = c .before .before .before .before .before .before .if1 in
+    let pll-input = c .before .before .before .before .before .pll-input in
+    let input = c .before .before .before .input in
+    simp (
+      lt-leb _ _ (if1 .left),
+      told replied (pll-input .ensures) (input .given .1),
+      sym (c .before .product .ensures),
+      c .if2 .left,
+    )
+
+pub main-pll-spec : {M : Type 1} → statement M
+main-pll-spec =
+    tie.close
+    (tie.spec
+    returns
+    pll-input-requires
+    enum-known-input
+    enum-told
+    returns-2
+    array-read-product
+    product-requires
+    returns-3
+    cast-t15
+    returns-4)
