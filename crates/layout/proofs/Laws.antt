@@ -3,7 +3,7 @@
 use mathlib.Core.Path.{_≡_, refl, sym, ap, ap₂, _∙_}
 use mathlib.Core.Bool.{Bool, true, false, _&&_}
 use mathlib.Core.List.{List, [], _∷_, _++_}
-use Prim.Native.Nat.{ℕ, zero, suc, _+_, _*_, _/_, _%_, _^_, _<_, _≤_}
+use Prim.Native.Nat.{ℕ, zero, suc, _+_, _*_, _/_, _%_, _^_, _<_}
 use native.Mathlib.Nat.{mod-lt, mod-eq-of-lt, mul-assoc, mul-comm, add-mul, mul-add-div-right, mul-add-mod-self-right, mod-one}
 use native.Mathlib.Omega.{arith}
 use native.Mathlib.Numerals.{add-one}
@@ -12,8 +12,8 @@ use lib.Dec.{ltb, leb, lit<}
 use lib.Seq.{drop-cons}
 use lib.Pow.{pow-pos, pow-add, mod-pow-add, split}
 use lib.Arith.{digits-lt, digits-div}
-use borrow.Author.Tests.{ltb-true, lt-ltb, leb-true}
-use Rattle.layout.specs.Layout.{total, unpack, pack, fitting, storableIn, storable, bytes, num, packed}
+use borrow.Author.Tests.{ltb-true, lt-ltb}
+use Rattle.layout.specs.Layout.{total, unpack, pack, fitting, storableIn, storable, bytes, num}
 
 pub and-left : (a b : Bool) → a && b ≡ true → a ≡ true
 and-left true b h = refl

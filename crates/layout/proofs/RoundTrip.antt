@@ -1,18 +1,24 @@
 -- Both round trips, once for every record: what its layout and its two conversions owe, and what follows.
 -- Assumes nothing.
-use Prim.Native.Nat.{ℕ, _*_}
+use Prim.Native.Nat.{ℕ, _*_, _≤_}
 use mathlib.Core.Path.{_≡_, refl, sym, ap, _∙_}
 use mathlib.Core.Bool.{Bool, true, false, not}
-use mathlib.Core.List.{List}
+use mathlib.Core.List.{List, _++_}
 use native.Mathlib.Omega.{arith}
-use borrow.Author.Tests.{eq-eqb, eqb-true, not-true, not-false}
-use lib.ListN.{length}
-use lib.Dec.{eqb}
+use borrow.Author.Tests.{eq-eqb, eqb-true}
+use lib.ListN.{length, take, drop}
+use lib.Seq.{take-at}
+use lib.Dec.{eqb, ltb}
 use Rattle.answer.specs.Answer.{Answer, gives, refuses, refuse, _>>=_, _>>_}
+use Rattle.answer.specs.Said.{done}
+use Rattle.answer.specs.declared.Outcome.{Outcome}
+use Rattle.answer.specs.declared.Outcome.the-variants.{Done}
 use Rattle.layout.specs.Layout.{total, unpack, fitting, num, Bytes, packed}
 use Rattle.layout.specs.Bits.{cut}
 use Rattle.layout.specs.Codec.{Inverse}
+use Rattle.layout.specs.Lent.{after, Wrote, wrote-settled}
 use Rattle.layout.proofs.Reading.{cut-unpack, cut-packed, packed-unpack, length-packed}
+use Rattle.layout.proofs.Writing.{written-to}
 
 -- the reader of a record of n bytes, laid out as ws
 abbrev pub readBy : {A : Type 0} (n : ℕ) (ws : List ℕ) (readable : List ℕ → Bool) (of : List ℕ → A) (wrongLength wrongFields : ℕ) → List ℕ → Answer A
@@ -54,6 +60,14 @@ module _ {A : Type 0} (n : ℕ) (ws : List ℕ) (whole : total ws ≡ 8 * n) (re
       let f : fields a ≡ y = sym (ap fields o) ∙ r .0 in
       rw w (ap gives (ap (packed n ws) f ∙ packed-unpack ws n whole s b l))
 
+  size : (a : A) (s : List ℕ) → writeBy n ws writable fields k a ≡ gives s → length s ≡ n
+  size a s e =
+      let p = passed k (writable a) (gives (packed n ws (fields a))) s e in
+      let t = packed n ws (fields a) in
+      let g : gives t ≡ gives s = p .1 in
+      let o : t ≡ s = cc in
+      ap length (sym o) ∙ length-packed ws n whole (fields a)
+
   read-write : (a : A) (s : List ℕ) → writeBy n ws writable fields k a ≡ gives s → readBy n ws readable of i j s ≡ gives a
   read-write a s e =
       let p = passed k (writable a) (gives (packed n ws (fields a))) s e in
@@ -62,9 +76,33 @@ module _ {A : Type 0} (n : ℕ) (ws : List ℕ) (whole : total ws ≡ 8 * n) (re
       let o : t ≡ s = cc in
       let f = fit a (p .0) in
       let c : cut ws s 0 ≡ fields a = ap (λ (z : List ℕ). cut ws z 0) (sym o) ∙ cut-packed ws n whole (fields a) (f .0) in
-      let l : length s ≡ n = ap length (sym o) ∙ length-packed ws n whole (fields a) in
+      let l = size a s e in
       let h : readable (cut ws s 0) ≡ true = ap readable c ∙ f .1 in
       rw (eq-eqb (length s) n l, h) (ap gives (ap of c ∙ of-fields a))
 
-  pub inverse : Inverse (readBy n ws readable of i j) (writeBy n ws writable fields k)
-  inverse = record { read-write = read-write; write-read = write-read }
+  pub inverse : Inverse n (readBy n ws readable of i j) (writeBy n ws writable fields k)
+  inverse = record { size = size; read-write = read-write; write-read = write-read }
+
+-- ---- the same of the calls, by what their writer promises
+
+-- an accepted write had bytes to write, and wrote them
+accepted : (l l′ d : List ℕ) (t : Bool) (m : Answer (List ℕ))
+    → let w : Answer (List ℕ) = _>>_ (refuse 32 t) (_>>=_ m (λ b. gives (b ++ d))) in
+    done Done ≡ _>>_ w (gives tt) → l′ ≡ after l w → (b : List ℕ) × ((m ≡ gives b) × (l′ ≡ b ++ d))
+accepted l l′ d false (gives b) e k = (b, (refl, k))
+accepted l l′ d false (refuses n) e k = let z : _≡_ {A = ℕ} 0 1 = cc in absurd (omega arith)
+accepted l l′ d true m e k = let z : _≡_ {A = ℕ} 0 1 = cc in absurd (omega arith)
+
+module _ {A : Type 0} {n : ℕ} {read : List ℕ → Answer A} {write : A → Answer (List ℕ)} (inv : Inverse n read write) where
+  -- what was written, read again, is what was handed over
+  pub read-after-write : (a : A) (l l′ : List ℕ) → Wrote n (write a) l l′ Done → read (take n l′) ≡ gives a
+  read-after-write a l l′ w =
+      let x = accepted l l′ (drop n l) (ltb (length l) n) (write a) (w .answer) (w .bytes) in
+      let e = x .1 .0 in
+      let t : take n l′ ≡ x .0 = ap (take n) (x .1 .1) ∙ take-at (x .0) (drop n l) n (inv .size a (x .0) e) in
+      ap read t ∙ inv .read-write a (x .0) e
+
+  -- what was read is accepted by the writer, which gives its bytes again
+  pub write-after-read : (s : List ℕ) (a : A) (l l′ : List ℕ) (r : Outcome) → Bytes s → read s ≡ gives a → n ≤ length l → Wrote n (write a) l l′ r
+      → (r ≡ Done) × (l′ ≡ s ++ drop n l)
+  write-after-read s a l l′ r b e h w = wrote-settled w (written-to n (write a) l s h (inv .write-read s a b e))

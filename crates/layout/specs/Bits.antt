@@ -1,7 +1,7 @@
 -- Bits of a list of bytes: place 0 is the most significant bit of the first byte. Past the end every bit is 0.
 -- Assumes nothing.
 use Prim.Native.Nat.{ℕ, zero, suc, _+_, _-_, _*_, _/_, _%_, _^_}
-use mathlib.Core.Bool.{Bool, true, false}
+use mathlib.Core.Bool.{Bool, true, false, cond}
 use mathlib.Core.List.{List, [], _∷_}
 use lib.ListN.{getD}
 use lib.Dec.{ltb, eqb}
@@ -29,10 +29,6 @@ abbrev pub cut : List ℕ → List ℕ → ℕ → List ℕ
 cut [] s at = []
 cut (w ∷ ws) s at = bitsAt s at w ∷ cut ws s (at + w)
 
-abbrev pub pick : Bool → ℕ → ℕ → ℕ
-pick true a b = a
-pick false a b = b
-
 -- n, and never above the limit
 abbrev pub upTo : ℕ → ℕ → ℕ
-upTo limit n = pick (ltb n limit) n limit
+upTo limit n = cond (ltb n limit) n limit

@@ -2,7 +2,6 @@
 -- Assumes nothing.
 use Prim.Native.Nat.{ℕ}
 use mathlib.Core.Path.{_≡_, sym, _∙_}
-use mathlib.Core.Bool.{Bool, true, false}
 use mathlib.Core.List.{List, _++_}
 use lib.ListN.{length, drop}
 use lib.Dec.{ltb}
@@ -23,11 +22,11 @@ abbrev pub after : List ℕ → Answer (List ℕ) → List ℕ
 after l (gives b) = b
 after l (refuses n) = l
 
--- A write of m into l: its answer, and every lent byte.
-pub record Wrote (m : Answer (List ℕ)) (l l′ : List ℕ) (r : Outcome) : Type 0 where
-  pub answer : done r ≡ _>>_ m (gives tt)
-  pub bytes : l′ ≡ after l m
+-- A write of the record m, n bytes, into l: its answer, and every lent byte.
+pub record Wrote (n : ℕ) (m : Answer (List ℕ)) (l l′ : List ℕ) (r : Outcome) : Type 0 where
+  pub answer : done r ≡ _>>_ (written n m l) (gives tt)
+  pub bytes : l′ ≡ after l (written n m l)
 
 -- Nothing is left open: the answer and the bytes of a write are settled.
-pub wrote-settled : {m : Answer (List ℕ)} {l a b : List ℕ} {r s : Outcome} → Wrote m l a r → Wrote m l b s → (r ≡ s) × (a ≡ b)
+pub wrote-settled : {n : ℕ} {m : Answer (List ℕ)} {l a b : List ℕ} {r s : Outcome} → Wrote n m l a r → Wrote n m l b s → (r ≡ s) × (a ≡ b)
 wrote-settled {r = r} {s = s} w v = (outcome-settled r s (w .answer ∙ sym (v .answer)), w .bytes ∙ sym (v .bytes))

@@ -3,4 +3,3 @@ pub mod Codec
 pub mod Layout
 pub mod Lent
 pub mod Stored
-pub mod Tests

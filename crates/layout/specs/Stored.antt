@@ -1,16 +1,16 @@
 -- The fields of a record stored in lent bytes.
 -- Assumes nothing.
 use Prim.Native.Nat.{ℕ}
-use mathlib.Core.Path.{_≡_}
-use mathlib.Core.Bool.{Bool, true, false}
+use mathlib.Core.Path.{_≡_, sym, _∙_}
+use mathlib.Core.Bool.{Bool, cond}
 use mathlib.Core.List.{List}
 use Rattle.layout.specs.Layout.{storable, shifted}
 
-abbrev pub pick : Bool → List ℕ → List ℕ → List ℕ
-pick true a b = a
-pick false a b = b
-
--- fields that don't fit leave every byte
+-- The answer of a store, and every byte: fields that don't fit leave all of them.
 pub record Stored (ws xs l l′ : List ℕ) (r : Bool) : Type 0 where
   pub answer : r ≡ storable ws xs
-  pub bytes : l′ ≡ pick (storable ws xs) (shifted ws xs l) l
+  pub bytes : l′ ≡ cond (storable ws xs) (shifted ws xs l) l
+
+-- Nothing is left open.
+pub stored-settled : {ws xs l a b : List ℕ} {r s : Bool} → Stored ws xs l a r → Stored ws xs l b s → (r ≡ s) × (a ≡ b)
+stored-settled w v = (w .answer ∙ sym (v .answer), w .bytes ∙ sym (v .bytes))

@@ -6,7 +6,7 @@ ghost use Rattle.layout.specs.Bits.{bitAt, bitsAt, flagAt, upTo};
 ghost use Rattle.layout.specs.Layout.{num, unpack, bytes, storableIn, storable};
 ghost use Rattle.layout.specs.Stored.{Stored};
 
-// A byte, wider: the callers' sums have room.
+// A byte as a u64, so that the callers' sums have room.
 fn wide(x: u8) -> u64
     ensures { λ r. ⌜ (r ≡ x) × (r < 256) ⌝ }
 {
@@ -21,6 +21,7 @@ fn two(k: u8) -> u64
     1 << k
 }
 
+// n, and never above the limit.
 fn up_to(limit: usize, n: usize) -> usize
     ensures { λ r. ⌜ (r ≡ upTo limit n) × (r ≤ limit) ⌝ }
 {
@@ -41,13 +42,13 @@ fn bit(s: &[u8], start: usize, k: usize) -> u64
     }
 }
 
-// The number that `count` bits from place `at` on spell, most significant bit first. A count above 64 reads 64 bits; bits past the end are 0.
-// Every field of a record is read through here.
+// The number that `count` bits from place `at` on spell, most significant bit first; place 0 is the first byte's most significant bit.
+// A count above 64 reads 64 bits, and places past the end hold 0. Every field of a record is read through here.
 pub fn bits(s: &[u8], at: usize, count: usize) -> u64
     ensures { λ r. ⌜ r ≡ bitsAt (now (s .entry)) at (upTo 64 count) ⌝ }
 {
     let n = up_to(64, count);
-    // A place near the end of usize can't be counted on: its byte and the bits from there on can.
+    // `at + i` could pass the end of usize. So the bits are counted from the byte that holds `at`.
     let start = at / 8;
     let skip = at % 8;
     let mut v: u64 = 0;
@@ -114,7 +115,8 @@ fn shift_in(out: &mut [u8], w: u8, x: u8)
     }
 }
 
-// Shifts the fields in, one after another. Where they don't fit their widths it answers false, and the bytes stay.
+// Shifts the fields in, one after another: where the layout has as many bits as the bytes, nothing of what they held is left.
+// Where the fields don't fit their widths it answers false, and the bytes stay.
 pub fn store(ws: &[u8], xs: &[u8], out: &mut [u8]) -> bool
     ensures { λ r. ⌜ Stored (now (ws .entry)) (now (xs .entry)) (now (out .entry)) (now (out .exit)) r ⌝ }
 {

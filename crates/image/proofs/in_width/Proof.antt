@@ -1,9 +1,8 @@
+-- `image::in_width` meets its contract: the tests are the definition's own, in its order. Assumes nothing.
 use Rattle.image.specs.Image.{inWidths}
 use mathlib.Core.Path.{refl}
 use Rattle.image.proofs.in_width.Statement.{statement}
 use Rattle.image.proofs.in_width.Tie as tie
-use Rattle.image.proofs.in_width.Reads as reads
-use Rattle.image.proofs.in_width.Lts as lts
 
 returns : tie.Need-returns
 unfolding inWidths

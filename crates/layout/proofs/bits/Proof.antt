@@ -36,7 +36,8 @@ loop-holds c = (omega arith, (refl, omega arith))
 
 mul-v : tie.Need-mul-v Inv-loop μ-loop
 mul-v c =
-    let h = room _ _ _ (c .before .loop .inv .1 .1) (c .loop-test .taken) (c .before .before .up-to .ensures .1) in
+    let l : c .before .before .up-to .result ≤ 64 = omega arith in
+    let h = room _ _ _ (c .before .loop .inv .1 .1) (c .loop-test .taken) l in
     omega arith
 
 add-bit : tie.Need-add-bit Inv-loop μ-loop
@@ -47,7 +48,8 @@ bit-requires c κs = (omega arith, omega arith)
 
 add-v : tie.Need-add-v Inv-loop μ-loop
 add-v c =
-    let h = room _ _ _ (c .before .before .loop .inv .1 .1) (c .before .loop-test .taken) (c .before .before .before .up-to .ensures .1) in
+    let l : c .before .before .before .up-to .result ≤ 64 = omega arith in
+    let h = room _ _ _ (c .before .before .loop .inv .1 .1) (c .before .loop-test .taken) l in
     omega arith
 
 add-i : tie.Need-add-i Inv-loop μ-loop

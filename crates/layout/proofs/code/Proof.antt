@@ -30,12 +30,14 @@ bits-requires c κs = search needs
 cast-result : tie.Need-cast-result
 cast-result c =
     let s = c .before .before .before in
-    omega (arith, small (s .args .s .now) (s .args .at) _ _ (c .before .up-to .ensures .1) (c .bits .ensures))
+    let h : c .before .up-to .result ≤ 8 = omega arith in
+    omega (arith, small (s .args .s .now) (s .args .at) _ _ h (c .bits .ensures))
 
 returns : tie.Need-returns
 returns c =
     let s = c .before .before .before in
-    given (s .args .s .now) (s .args .at) _ _ (c .before .up-to .ensures .1) (c .bits .ensures) ∙ ap (bitsAt (s .args .s .now) (s .args .at)) (c .before .up-to .ensures .0)
+    let h : c .before .up-to .result ≤ 8 = omega arith in
+    given (s .args .s .now) (s .args .at) _ _ h (c .bits .ensures) ∙ ap (bitsAt (s .args .s .now) (s .args .at)) (c .before .up-to .ensures .0)
 
 pub code-spec : {M : Type 1} → statement M
 code-spec = tie.close (tie.spec up-to-requires bits-requires cast-result returns)

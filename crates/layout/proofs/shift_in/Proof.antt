@@ -1,7 +1,7 @@
 -- `layout::shift_in` meets its contract. The invariant: the bytes from i on are those of the shifted number, and those before i, shifted, with the
 -- carry, are what is left of it. Assumes nothing.
 use mathlib.Core.Path.{_≡_, refl, sym, ap, _∙_}
-use mathlib.Core.List.{List, [], _∷_, _++_}
+use mathlib.Core.List.{List}
 use Prim.Native.Nat.{ℕ, suc, _+_, _*_, _/_, _%_, _^_, _≤_, _<_, _-_}
 use native.Mathlib.Nat.{add-comm, add-mul, mul-assoc, mul-comm, div-one, sub-self, sub-zero, mul-le-mul}
 use native.Mathlib.Omega.{arith}

@@ -1,7 +1,6 @@
 -- `layout::up_to` meets its contract. Assumes nothing.
 use native.Mathlib.Omega.{arith}
 use borrow.Author.Tests.{lt-ltb, le-ltb}
-use borrow.Author.Needs.{needs}
 use Rattle.layout.proofs.up_to.Statement.{statement}
 use Rattle.layout.proofs.up_to.Tie as tie
 

@@ -1,0 +1,91 @@
+-- `image::write_image` meets its contract. Assumes nothing.
+use mathlib.Core.Path.{_≡_, refl, sym, ap, _∙_}
+use mathlib.Core.Bool.{Bool, true, false}
+use mathlib.Core.List.{List, _++_}
+use Prim.Native.Nat.{ℕ, _≤_}
+use lib.ListN.{length, take, drop}
+use lib.Seq.{length-take-le}
+use Rattle.answer.specs.Answer.{gives}
+use Rattle.answer.specs.declared.Outcome.the-variants.{Done, Refused}
+use Rattle.layout.specs.Layout.{storable, packed}
+use Rattle.layout.specs.Lent.{Wrote}
+use Rattle.layout.specs.Stored.{Stored}
+use Rattle.layout.proofs.Writing.{short, placed, unplaced}
+use Rattle.image.specs.declared.Fields.{Fields}
+use Rattle.image.specs.Image.{widths, listOf, inWidth, imageBytes}
+use Rattle.image.proofs.Widths.{in-width}
+use borrow.Author.Needs.{needs}
+use Rattle.image.proofs.write_image.Statement.{statement}
+use Rattle.image.proofs.write_image.Tie as tie
+
+module _ (f : Fields) (l xs part : List ℕ) (r : Bool) (h : 8 ≤ length l) (x : xs ≡ listOf f) (s : Stored widths xs (take 8 l) part r) where
+  -- what was stored fits, and what fits is in width
+  stored : r ≡ inWidth f
+  stored = s .answer ∙ ap (storable widths) x ∙ sym (in-width f)
+
+  accepted : r ≡ true → Wrote 8 (imageBytes f) l (part ++ drop 8 l) Done
+  unfolding imageBytes
+  accepted t =
+      let w : inWidth f ≡ true = sym stored ∙ t in
+      placed 8 (imageBytes f) l widths xs part r h s refl t (rw w (ap (λ (ys : List ℕ). gives (packed 8 widths ys)) (sym x)))
+
+  too-wide : r ≡ false → Wrote 8 (imageBytes f) l (part ++ drop 8 l) (Refused 28)
+  unfolding imageBytes
+  too-wide t =
+      let w : inWidth f ≡ false = sym stored ∙ t in
+      unplaced 8 (imageBytes f) l widths xs part r h s 28 t (rw w)
+
+returns : tie.Need-returns
+returns c = let a = c .before .before .args in short 8 (imageBytes (a .f)) (a .out .now) (c .if1 .taken)
+
+list-of-requires : tie.Need-list-of-requires
+list-of-requires c κs = search needs
+
+slice-aggregate-store : tie.Need-slice-aggregate-store
+slice-aggregate-store c = search needs
+
+slice-aggregate-store-2 : tie.Need-slice-aggregate-store-2
+slice-aggregate-store-2 c = search needs
+
+slice-relend-prefix-store : tie.Need-slice-relend-prefix-store
+slice-relend-prefix-store c = search needs
+
+slice-aggregate-store-3 : tie.Need-slice-aggregate-store-3
+slice-aggregate-store-3 c = sym (length-take-le 8 (c .before .before .before .before .before .before .args .out .now) (c .before .before .before .before .if1 .left))
+
+store-requires : tie.Need-store-requires
+store-requires c κs = search needs
+
+same-length : tie.Need-same-length
+same-length c = search needs
+
+returns-2 : tie.Need-returns-2
+returns-2 c =
+    let a = c .before .before .before .before .before .before .before in
+    let s = a .before .before .before .args in
+    accepted (s .f) (s .out .now) (a .list-of .result) _ _ (a .before .if1 .left) (a .list-of .ensures) (c .before .before .before .store .ensures) (c .if2 .taken)
+
+same-length-2 : tie.Need-same-length-2
+same-length-2 c = search needs
+
+returns-3 : tie.Need-returns-3
+returns-3 c =
+    let a = c .before .before .before .before .before .before .before in
+    let s = a .before .before .before .args in
+    too-wide (s .f) (s .out .now) (a .list-of .result) _ _ (a .before .if1 .left) (a .list-of .ensures) (c .before .before .before .store .ensures) (c .if2 .left)
+
+pub write-image-spec : {M : Type 1} → statement M
+write-image-spec =
+    tie.close
+    (tie.spec
+    returns
+    list-of-requires
+    slice-aggregate-store
+    slice-aggregate-store-2
+    slice-relend-prefix-store
+    slice-aggregate-store-3
+    store-requires
+    same-length
+    returns-2
+    same-length-2
+    returns-3)
