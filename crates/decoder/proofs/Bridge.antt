@@ -24,23 +24,7 @@ use Rattle.v4x7.specs.Check.{checkOf, namedOf, namedHsPll, noPll, noHsPll, hseP
 use Rattle.v4x7.specs.Laws.{Named, named-given}
 use Rattle.decoder.specs.Decode.{usedOf, usbHsReferenceOf, usbHsPllOf, selectedOf, inUseOf, decodeOf}
 use Rattle.decoder.specs.Laid.{frequencyOf, PllLaid, HsPllLaid, Laid}
-
--- two cases of a test
-by : {P : Type 0} (b : Bool) → (b ≡ true → P) → (b ≡ false → P) → P
-by true h k = h refl
-by false h k = k refl
-
--- nothing refuses where something is given
-none : {A P : Type 0} {n : ℕ} {x : A} → refuses n ≡ gives x → P
-none q = absurd (let z : _≡_ {A = ℕ} 0 1 = cc in omega arith)
-
-never : {P : Type 0} → true ≡ false → P
-never q = absurd (let z : _≡_ {A = ℕ} 0 1 = cc in omega arith)
-
--- a test that failed, one part of which holds
-other : (a b : Bool) → (a && b) ≡ false → a ≡ true → b ≡ false
-other true b q e = q
-other false b q e = never (sym e)
+use Rattle.decoder.proofs.Cases.{by, never, none, other}
 
 -- HSE where it is used is HSE where it is needed, once its range was tested
 used : (h : Hse) → hsePresentOf h ≡ gives tt → usedOf (frequencyOf h) ≡ neededOf h
