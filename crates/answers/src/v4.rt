@@ -1,0 +1,43 @@
+// The V4x7 check, decoder and queries.
+use crate::query;
+use crate::reply;
+use decoder::Query;
+use v4x7::Checked;
+
+pub fn check(q: &[u8; 128]) -> [u8; 64] {
+    let config = query::config(q);
+    match config.clocks() {
+        Checked::Refused(n) => reply::empty(1, n),
+        Checked::Accepted { clocks, adc } => reply::word(
+            reply::clocks(reply::empty(1, 0), 2, clocks),
+            26,
+            adc,
+        ),
+    }
+}
+
+pub fn decode(q: &[u8; 128]) -> [u8; 64] {
+    let hse = query::frequency(q[34], query::word(q[35], q[36], q[37], q[38]));
+    reply::run(2, decoder::decode(query::fields(q, 1), hse))
+}
+
+fn queried(kind: u8, answer: Query) -> [u8; 64] {
+    match answer {
+        Query::Refused(n) => reply::empty(kind, n),
+        Query::NotReady => reply::empty(kind, 0),
+        Query::Is(hz) => reply::word(reply::byte(reply::empty(kind, 0), 2, 1), 3, hz),
+    }
+}
+
+pub fn adc(q: &[u8; 128]) -> [u8; 64] {
+    let sysclk = query::word(q[34], q[35], q[36], q[37]);
+    queried(3, decoder::adc_frequency(query::fields(q, 1), sysclk))
+}
+
+pub fn rng(q: &[u8; 128]) -> [u8; 64] {
+    let sysclk = query::word(q[34], q[35], q[36], q[37]);
+    queried(
+        4,
+        decoder::rng_source_frequency(query::fields(q, 1), sysclk),
+    )
+}

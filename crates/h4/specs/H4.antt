@@ -1,0 +1,73 @@
+-- CH32H4, document 01, "Modules, leaves first" and document 003: the clocks by their codes, and the doubled multipliers.
+-- Assumes nothing.
+use mathlib.Core.Path.{_≡_, refl}
+use mathlib.Core.List.{List, [], _∷_}
+use Prim.Native.Nat.{ℕ, _/_}
+use lib.Dec.{leb}
+use lib.ListN.{getD}
+use Rattle.answer.specs.Answer.{Answer, gives, refuses, refuse, _>>=_, _>>_, settled-by}
+use Rattle.divider.specs.declared.Family.the-variants.{H4}
+use Rattle.divider.specs.Divide.{fpreDivisor, byAhbOf, byApbOf}
+use Rattle.tree.specs.declared.Clocks.{Clocks}
+use Rattle.tree.specs.declared.Bus.{Bus}
+use Rattle.tree.specs.declared.Bus.the-variants as bus
+use Rattle.tree.specs.Tree.{belowOf, onBus}
+use Rattle.h4.specs.declared.Prescale.{Prescale}
+use Rattle.h4.specs.declared.Prescaled.{Prescaled}
+use Rattle.h4.specs.declared.Prescaled.the-variants as answer
+
+-- What the answer says: the AHB clock and the six clocks.
+abbrev pub prescaled : Prescaled → Answer (ℕ × Clocks)
+prescaled (answer.Run ahb k) = gives (ahb, k)
+prescaled (answer.Refused n) = refuses n
+
+-- a bus: PCLK, and its timers' clock, for H4 always PCLK
+unfoldable pub pclkOf : ℕ → ℕ → Answer (ℕ × ℕ)
+pclkOf hclk c = do
+  pclk ← byApbOf hclk c
+  gives (pclk, pclk)
+
+-- doubled multipliers, by position in 003's list
+abbrev pub doubles : List ℕ
+doubles =
+    8 ∷ 12 ∷ 14 ∷ 16 ∷ 17 ∷ 18 ∷ 19 ∷ 20 ∷ 21 ∷ 22 ∷ 23 ∷ 24 ∷ 25 ∷ 26 ∷ 28 ∷ 30
+    ∷ 32 ∷ 34 ∷ 36 ∷ 38 ∷ 40 ∷ 44 ∷ 48 ∷ 52 ∷ 56 ∷ 60 ∷ 64 ∷ 68 ∷ 72 ∷ 76 ∷ 80 ∷ 118 ∷ []
+
+-- 0 to 31, else 28
+unfoldable pub doubledOf : ℕ → Answer ℕ
+doubledOf c = do
+  refuse 28 (leb 32 c)
+  gives (getD doubles c 0)
+
+-- SYSCLK by HPRE is AHB, by FPRE HCLK, by PPRE the two buses; 28 for codes too wide, which FPRE can't be
+unfoldable pub prescaledOf : ℕ → Prescale → Answer (ℕ × Clocks)
+prescaledOf sys p = do
+  ahb ← byAhbOf H4 sys (p .hpre)
+  clocks ← belowOf H4 sys (ahb / fpreDivisor (p .fpre)) (p .ppre1) (p .ppre2)
+  gives (ahb, clocks)
+
+-- Nothing is left open: two results that a promise allows are equal.
+
+prescaledBack : Answer (ℕ × Clocks) → Prescaled
+prescaledBack (gives x) = answer.Run (x .0) (x .1)
+prescaledBack (refuses n) = answer.Refused n
+
+again : (r : Prescaled) → prescaledBack (prescaled r) ≡ r
+unfolding prescaledBack
+again (answer.Run ahb k) = refl
+again (answer.Refused n) = refl
+
+pub prescaled-settled : (r s : Prescaled) → prescaled r ≡ prescaled s → r ≡ s
+prescaled-settled = settled-by prescaled prescaledBack again
+
+busBack : Answer (ℕ × ℕ) → Bus
+busBack (gives x) = bus.Run (x .0) (x .1)
+busBack (refuses n) = bus.Refused n
+
+bus-again : (r : Bus) → busBack (onBus r) ≡ r
+unfolding busBack
+bus-again (bus.Run pclk tim) = refl
+bus-again (bus.Refused n) = refl
+
+pub bus-settled : (r s : Bus) → onBus r ≡ onBus s → r ≡ s
+bus-settled = settled-by onBus busBack bus-again

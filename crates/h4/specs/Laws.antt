@@ -1,0 +1,59 @@
+-- Laws of CH32H4: each multiplier is its name's, and the timers run at PCLK.
+-- Assumes nothing.
+use mathlib.Core.Path.{_≡_, refl}
+use mathlib.Core.Bool.{Bool, true, false, cond}
+use mathlib.Core.List.{List, [], _∷_}
+use Prim.Native.Nat.{ℕ, _*_, _/_, _<_}
+use lib.Dec.{eqb, eqb→eq}
+use lib.ListN.{getD}
+use Rattle.answer.specs.Answer.{Answer, gives, refuses, _>>=_}
+use Rattle.divider.specs.declared.Family.the-variants.{H4}
+use Rattle.divider.specs.Divide.{apbOf, byApbOf}
+use Rattle.divider.specs.Table.{at}
+use Rattle.tree.specs.Tree.{busOf, timerClock}
+use Rattle.h4.specs.H4.{doubles, pclkOf}
+
+-- the multipliers that 003's list names, in tenths: MUL4, MUL6, MUL7, MUL8, MUL8_5, ..
+abbrev pub tenths : List ℕ
+tenths =
+    40 ∷ 60 ∷ 70 ∷ 80 ∷ 85 ∷ 90 ∷ 95 ∷ 100 ∷ 105 ∷ 110 ∷ 115 ∷ 120 ∷ 125 ∷ 130 ∷ 140 ∷ 150
+    ∷ 160 ∷ 170 ∷ 180 ∷ 190 ∷ 200 ∷ 220 ∷ 240 ∷ 260 ∷ 280 ∷ 300 ∷ 320 ∷ 340 ∷ 360 ∷ 380 ∷ 400 ∷ 590 ∷ []
+
+right : ℕ → ℕ → Bool
+right i x = eqb (5 * x) (getD tenths i 0)
+
+-- by one test that antt computes over the list
+pub named : (i : ℕ) → i < 32 → 5 * getD doubles i 0 ≡ getD tenths i 0
+unfolding right
+named i h = eqb→eq (5 * getD doubles i 0) (getD tenths i 0) (at right doubles tt i h)
+
+-- what `busOf` and `pclkOf` make of a divisor
+abbrev quotient : ℕ → Answer ℕ → Answer ℕ
+quotient hclk m = do
+  d ← m
+  gives (hclk / d)
+
+abbrev bus : ℕ → Answer ℕ → Answer (ℕ × ℕ)
+bus hclk m = do
+  d ← m
+  pclk ← quotient hclk m
+  gives (pclk, timerClock H4 d pclk)
+
+abbrev twin : Answer ℕ → Answer (ℕ × ℕ)
+twin m = do
+  pclk ← m
+  gives (pclk, pclk)
+
+same : (b : Bool) (x : ℕ) → cond b x x ≡ x
+same true x = refl
+same false x = refl
+
+timer : (hclk : ℕ) (m : Answer ℕ) → bus hclk m ≡ twin (quotient hclk m)
+unfolding timerClock
+timer hclk (gives d) = rw (same (eqb d 1) (hclk / d))
+timer hclk (refuses n) = refl
+
+-- a bus of the record is that of `pclkOf`: timers always PCLK
+pub bus-is : (hclk c : ℕ) → busOf H4 hclk c ≡ pclkOf hclk c
+unfolding busOf pclkOf byApbOf
+bus-is hclk c = timer hclk (apbOf c)

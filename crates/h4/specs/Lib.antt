@@ -1,0 +1,2 @@
+pub mod H4
+pub mod Laws

@@ -1,0 +1,111 @@
+use mathlib.Core.Path.{sym}
+use borrow.Author.Needs.{needs}
+use Rattle.answer.specs.Answer.{told}
+use Rattle.answer.specs.Said.{replied}
+use Rattle.tree.specs.Tree.{running}
+use Rattle.pll32.specs.Pll.{finishedOf}
+use Rattle.pll32.proofs.finished.Statement.{statement}
+use Rattle.pll32.proofs.finished.Tie as tie
+
+too-wide-requires : tie.Need-too-wide-requires
+too-wide-requires c κs = search needs
+
+returns : tie.Need-returns
+unfolding finishedOf
+returns c = simp (sym (c .before .too-wide .ensures), c .if1 .taken)
+
+sysclk-requires : tie.Need-sysclk-requires
+sysclk-requires c κs = search needs
+
+enum-known-system : tie.Need-enum-known-system
+enum-known-system c = search needs
+
+enum-told : tie.Need-enum-told
+enum-told c = search needs
+
+refusal-requires : tie.Need-refusal-requires
+refusal-requires c κs = search needs
+
+returns-2 : tie.Need-returns-2
+unfolding finishedOf
+returns-2 c =
+    let too-wide = c .before .before .before .before .before .too-wide in
+    let if1 = c .before .before .before .before .if1 in
+    let sysclk = c .before .before .before .sysclk in
+    simp (
+      sym (too-wide .ensures),
+      if1 .left,
+      c .refusal .ensures,
+      c .before .enum-told .given .1,
+      told replied (sysclk .ensures) (c .before .enum-told .given .1),
+    )
+
+family-requires : tie.Need-family-requires
+family-requires c κs = search needs
+
+bus-clocks-requires : tie.Need-bus-clocks-requires
+bus-clocks-requires c κs = search needs
+
+enum-known-n : tie.Need-enum-known-n
+enum-known-n c = search needs
+
+enum-known-clocks : tie.Need-enum-known-clocks
+enum-known-clocks c = search needs
+
+usb-requires : tie.Need-usb-requires
+usb-requires c κs = search needs
+
+returns-3 : tie.Need-returns-3
+unfolding finishedOf
+returns-3 c =
+    let too-wide = c .before .before .before .before .before .before .before .before .before .before .too-wide in
+    let if1 = c .before .before .before .before .before .before .before .before .before .if1 in
+    let sysclk = c .before .before .before .before .before .before .before .before .sysclk in
+    let system = c .before .before .before .before .before .before .system in
+    let family = c .before .before .before .before .family in
+    let bus-clocks = c .before .before .before .bus-clocks in
+    simp (
+      sym (too-wide .ensures),
+      if1 .left,
+      told replied (sysclk .ensures) (system .given .1),
+      sym (family .ensures),
+      told running (bus-clocks .ensures) (c .before .n .given .1),
+    )
+
+returns-4 : tie.Need-returns-4
+unfolding finishedOf
+returns-4 c =
+    let too-wide = c .before .before .before .before .before .before .before .before .before .before .before .too-wide in
+    let if1 = c .before .before .before .before .before .before .before .before .before .before .if1 in
+    let sysclk = c .before .before .before .before .before .before .before .before .before .sysclk in
+    let system = c .before .before .before .before .before .before .before .system in
+    let family = c .before .before .before .before .before .family in
+    let bus-clocks = c .before .before .before .before .bus-clocks in
+    let clocks = c .before .before .clocks in
+    simp (
+      sym (too-wide .ensures),
+      if1 .left,
+      told replied (sysclk .ensures) (system .given .1),
+      sym (family .ensures),
+      told running (bus-clocks .ensures) (clocks .given .1),
+      c .usb .ensures,
+    )
+
+pub finished-spec : {M : Type 1} → statement M
+finished-spec =
+    tie.close
+    (tie.spec
+    too-wide-requires
+    returns
+    sysclk-requires
+    enum-known-system
+    enum-told
+    refusal-requires
+    returns-2
+    family-requires
+    bus-clocks-requires
+    enum-known-n
+    enum-known-clocks
+    usb-requires
+    returns-3
+    returns-4)

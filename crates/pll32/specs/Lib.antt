@@ -1,0 +1,3 @@
+pub mod Pll
+pub mod Answers
+pub mod Laws

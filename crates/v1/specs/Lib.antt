@@ -1,0 +1,3 @@
+pub mod V1
+pub mod Laws
+pub mod Rows

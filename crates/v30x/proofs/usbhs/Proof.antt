@@ -1,0 +1,85 @@
+use mathlib.Core.Path.{sym}
+use borrow.Author.Needs.{needs}
+use Rattle.answer.specs.Answer.{told}
+use Rattle.answer.specs.Said.{replied}
+use Rattle.v30x.specs.V30x.{usbhsOf}
+use Rattle.v30x.proofs.usbhs.Statement.{statement}
+use Rattle.v30x.proofs.usbhs.Tie as tie
+
+enum-told : tie.Need-enum-told
+enum-told c = search needs
+
+enum-known-hspll : tie.Need-enum-known-hspll
+enum-known-hspll c = search needs
+
+from-requires : tie.Need-from-requires
+from-requires c κs = search needs
+
+enum-known-n : tie.Need-enum-known-n
+enum-known-n c = search needs
+
+enum-known-hz : tie.Need-enum-known-hz
+enum-known-hz c = search needs
+
+by-one-more-requires : tie.Need-by-one-more-requires
+by-one-more-requires c κs = search needs
+
+reference-allowed-requires : tie.Need-reference-allowed-requires
+reference-allowed-requires c κs = search needs
+
+returns : tie.Need-returns
+unfolding usbhsOf
+returns c = simp (c .enum-told .given .1)
+
+returns-2 : tie.Need-returns-2
+unfolding usbhsOf
+returns-2 c =
+    let hspll = c .before .before .before .before .before .hspll in
+    let from = c .before .before .before .from in
+    simp (hspll .given .1, told replied (from .ensures) (c .before .n .given .1))
+
+returns-3 : tie.Need-returns-3
+unfolding usbhsOf
+returns-3 c =
+    let hspll = c .before .before .before .before .before .before .before .before .hspll in
+    let from = c .before .before .before .before .before .before .from in
+    let hz = c .before .before .before .before .hz in
+    let by-one-more = c .before .before .by-one-more in
+    simp (
+      hspll .given .1,
+      told replied (from .ensures) (hz .given .1),
+      sym (by-one-more .ensures),
+      sym (c .before .reference-allowed .ensures),
+      c .if1 .taken,
+    )
+
+returns-4 : tie.Need-returns-4
+unfolding usbhsOf
+returns-4 c =
+    let hspll = c .before .before .before .before .before .before .before .before .hspll in
+    let from = c .before .before .before .before .before .before .from in
+    let hz = c .before .before .before .before .hz in
+    let by-one-more = c .before .before .by-one-more in
+    simp (
+      hspll .given .1,
+      told replied (from .ensures) (hz .given .1),
+      sym (by-one-more .ensures),
+      sym (c .before .reference-allowed .ensures),
+      c .if1 .left,
+    )
+
+pub usbhs-spec : {M : Type 1} → statement M
+usbhs-spec =
+    tie.close
+    (tie.spec
+    enum-told
+    enum-known-hspll
+    from-requires
+    enum-known-n
+    enum-known-hz
+    by-one-more-requires
+    reference-allowed-requires
+    returns
+    returns-2
+    returns-3
+    returns-4)

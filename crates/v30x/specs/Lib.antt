@@ -1,0 +1,3 @@
+pub mod V30x
+pub mod Laws
+pub mod Rows
