@@ -1,0 +1,170 @@
+-- An accepted configuration's steps leave fields that hold what it asks for, so that they decode to the promised clocks.
+-- Assumes nothing.
+use Prim.Native.Nat.{ℕ}
+use mathlib.Core.Path.{_≡_, refl, sym, ap, _∙_, subst}
+use mathlib.Core.Bool.{Bool, true, false, cond, not, _&&_}
+use mathlib.Core.List.{List, [], _∷_}
+use native.Mathlib.Omega.{arith}
+use borrow.Author.Tests.{eq-eqb, eqb-true}
+use lib.Dec.{eqb}
+use lib.ListN.{take}
+use Rattle.answer.specs.Answer.{Answer, gives, refuses, refuse, _>>=_, _>>_, bound, followed, passed}
+use Rattle.tree.specs.declared.Clocks.{Clocks}
+use Rattle.v4x7_rules.specs.Rules.{referenceCodeOf}
+use Rattle.v4x7.specs.declared.Hse.{Hse}
+use Rattle.v4x7.specs.declared.Hse.the-variants as hse
+use Rattle.v4x7.specs.declared.Pll.{Pll}
+use Rattle.v4x7.specs.declared.Pll.the-variants as pll
+use Rattle.v4x7.specs.declared.HsPll.{HsPll}
+use Rattle.v4x7.specs.declared.HsPll.the-variants as hspll
+use Rattle.v4x7.specs.declared.AdcClockSource.{AdcClockSource}
+use Rattle.v4x7.specs.declared.AdcClockSource.the-variants as adc
+use Rattle.v4x7.specs.declared.Config.{Config}
+use Rattle.v4x7.specs.Check.{checkOf, neededOf, referenceOf, usbHsOf}
+use Rattle.image.specs.declared.Seen.{Seen}
+use Rattle.image.specs.declared.Fields.{Fields}
+use Rattle.decoder.specs.Decode.{decodeOf}
+use Rattle.decoder.specs.Laid.{frequencyOf, PllLaid, HsPllLaid, Laid}
+use Rattle.decoder.proofs.Bridge.{laid-decodes}
+use Rattle.steps.specs.Writes.{withSeen, switch, gate, usbHsSource, usbHsOn, mainSource, mainOn, sysPll, buses, fromUsbHs, adcDivisor, hseHz, reference, orZero, codeOf}
+use Rattle.steps.specs.Steps.{Entry, hasUsbHs, hasMain, steps, sameClocks, isClocks, agreesOf}
+use Rattle.startup.specs.declared.Reading.{Reading}
+use Rattle.startup.specs.Call.{seenOf}
+use Rattle.demands.specs.Runs.{written}
+use Rattle.demands.proofs.Walk.{Always}
+use Rattle.demands.proofs.Held.{always, tame-take, written-kept}
+use Rattle.demands.proofs.Accepted.{Accepted, accepted-tells}
+use Rattle.demands.proofs.Width.{Wide, wide, in-width, see, tame}
+
+-- Steps 13 and 14, and 16 and 17, taken or skipped.
+abbrev usbHsOut : Hse → HsPll → Fields → Fields
+usbHsOut h p f =
+    let on = hasUsbHs p in
+    let g = cond on (usbHsSource h p f) f in
+    cond on (usbHsOn g) g
+
+abbrev mainOut : ℕ → Pll → Fields → Fields
+mainOut source p f =
+    let on = hasMain p in
+    let g = cond on (mainSource source p f) f in
+    cond on (mainOn g) g
+
+-- The main PLL's fields, where it is configured, are as step 16 wrote them; step 16 keeps CFGR2.
+main-laid : (source : ℕ) (p : Pll) (f g : Fields) → g .cfgr0 .pllsrc ≡ mainOut source p f .cfgr0 .pllsrc →
+    g .cfgr0 .pllmul ≡ mainOut source p f .cfgr0 .pllmul → PllLaid p source g
+main-laid source pll.Absent f g a b = tt
+main-laid source (pll.Mul m) f g a b = (a, b)
+
+main-keeps : (source : ℕ) (p : Pll) (f : Fields) → mainOut source p f .cfgr2 ≡ f .cfgr2
+main-keeps source pll.Absent f = refl
+main-keeps source (pll.Mul m) f = refl
+
+-- The reference that the check found is the one that step 13 has the code of.
+same-hz : {m n : ℕ} → _≡_ {A = Answer ℕ} (gives m) (gives n) → m ≡ n
+same-hz e = cc
+
+needed-hz : (h : Hse) {hz : ℕ} → neededOf h ≡ gives hz → hseHz h ≡ hz
+needed-hz hse.Absent q = let z : _≡_ {A = ℕ} 0 1 = cc in absurd (omega arith)
+needed-hz (hse.Present byp f) q = same-hz q
+
+reference-is : (h : Hse) (eth : Bool) (s : ℕ) {hz : ℕ} → referenceOf h eth s ≡ gives hz → reference h s ≡ hz
+unfolding referenceOf
+reference-is h eth s {hz} q = at (eqb s 0) q
+  where
+    at : (b : Bool) → cond b (neededOf h) (_>>_ (refuse 7 (eqb s 2 && not eth)) (gives 20000000)) ≡ gives hz → cond b (hseHz h) 20000000 ≡ hz
+    at true e = needed-hz h e
+    at false e = same-hz (passed 7 (eqb s 2 && not eth) (gives 20000000) e .after)
+
+usbhs-laid : (c : Config) (p : HsPll) (f g : Fields) → g .cfgr2 .usbhspllsrc ≡ usbHsOut (c .hse) p f .cfgr2 .usbhspllsrc →
+    g .cfgr2 .usbhspllclk ≡ usbHsOut (c .hse) p f .cfgr2 .usbhspllclk → usbHsOf (c .hse) (c .ethpll) p ≡ gives tt → HsPllLaid c p g
+unfolding usbHsOf
+usbhs-laid c hspll.Absent f g a b q = tt
+usbhs-laid c (hspll.From s) f g a b q =
+    let r = bound (referenceOf (c .hse) (c .ethpll) s) (λ hz. _>>_ (referenceCodeOf hz) (gives tt)) q in
+    let k = followed (referenceCodeOf (r .value)) (gives tt) (r .after) in
+    let code : codeOf (c .hse) s ≡ k .value = ap (λ (hz : ℕ). orZero (referenceCodeOf hz)) (reference-is (c .hse) (c .ethpll) s (r .gave)) ∙ ap orZero (k .gave) in (
+      a,
+      λ hz e.
+          let is : hz ≡ r .value = sym (reference-is (c .hse) (c .ethpll) s e) ∙ reference-is (c .hse) (c .ethpll) s (r .gave) in
+          ap referenceCodeOf is ∙ k .gave ∙ ap gives (sym (b ∙ code)),
+    )
+
+-- What steps 24 and 25 keep, taken or skipped.
+cond-keeps : {A : Type 0} (F : Fields → A) (w : Fields → Fields) → ((f : Fields) → F (w f) ≡ F f) → (b : Bool) (f : Fields) → F (cond b (w f) f) ≡ F f
+cond-keeps F w h true f = h f
+cond-keeps F w h false f = refl
+
+adc-keeps : {A : Type 0} (F : Fields → A) → ((f : Fields) (n : ℕ) → F (adcDivisor (adc.UsbHsPll n) f) ≡ F f) → (a : AdcClockSource) (f : Fields) → F (adcDivisor a f) ≡ F f
+adc-keeps F h adc.Hclk f = refl
+adc-keeps F h (adc.UsbHsPll d) f = h f d
+
+module _ (c : Config) {x : Clocks × ℕ} (q : checkOf c ≡ gives x) (earlier : Fields) (width : Wide earlier) where
+  abbrev ok : Accepted c
+  ok = accepted-tells c q
+
+  abbrev front : List Entry
+  front = take 26 (steps c (x .0))
+
+  abbrev last : Fields
+  last = written front earlier
+
+  -- before step 24
+  abbrev mid : Fields
+  mid = written (take 23 (steps c (x .0))) earlier
+
+  keeps : {A : Type 0} (F : Fields → A) → ((f : Fields) → F (switch (c .sys) f) ≡ F f) → ((f : Fields) → F (gate true f) ≡ F f) →
+      ((f : Fields) (n : ℕ) → F (adcDivisor (adc.UsbHsPll n) f) ≡ F f) → F last ≡ F mid
+  keeps F s g d =
+      let on = eqb (c .sys) 2 in
+      let with-adc = cond (fromUsbHs (c .«adc_src»)) (adcDivisor (c .«adc_src») mid) mid in
+      s (cond on (gate true with-adc) with-adc) ∙ cond-keeps F (gate true) g on with-adc ∙
+      cond-keeps F (adcDivisor (c .«adc_src»)) (adc-keeps F d (c .«adc_src»)) (fromUsbHs (c .«adc_src»)) mid
+
+  laid : (r : Reading) → eqb (seenOf r .sws) (c .sys) ≡ true → Laid c (withSeen last (seenOf r))
+  laid r e =
+      let before = written (take 15 (steps c (x .0))) earlier in
+      let twelve = written (take 12 (steps c (x .0))) earlier in
+      let two = main-keeps (c .«pll_src») (c .pll) before in
+      record {
+        width = in-width (withSeen last (seenOf r)) (see last r (written-kept Wide front (tame-take Wide 26 (steps c (x .0)) (tame c ok (x .0))) earlier width));
+        sws = eqb-true (seenOf r .sws) (c .sys) e;
+        hpre = keeps (λ f. f .cfgr0 .hpre) (λ f. refl) (λ f. refl) (λ f n. refl);
+        ppre1 = keeps (λ f. f .cfgr0 .ppre1) (λ f. refl) (λ f. refl) (λ f n. refl);
+        ppre2 = keeps (λ f. f .cfgr0 .ppre2) (λ f. refl) (λ f. refl) (λ f n. refl);
+        syspllsrc = keeps (λ f. f .cfgr2 .syspllsrc) (λ f. refl) (λ f. refl) (λ f n. refl);
+        sysplldiv = keeps (λ f. f .cfgr2 .sysplldiv) (λ f. refl) (λ f. refl) (λ f n. refl);
+        main =
+            main-laid (c .«pll_src») (c .pll) before (withSeen last (seenOf r))
+            (keeps (λ f. f .cfgr0 .pllsrc) (λ f. refl) (λ f. refl) (λ f n. refl)) (keeps (λ f. f .cfgr0 .pllmul) (λ f. refl) (λ f. refl) (λ f n. refl));
+        usbhs =
+            usbhs-laid c (c .hspll) twelve (withSeen last (seenOf r))
+            (keeps (λ f. f .cfgr2 .usbhspllsrc) (λ f. refl) (λ f. refl) (λ f n. refl) ∙ ap (λ r. r .usbhspllsrc) two)
+            (keeps (λ f. f .cfgr2 .usbhspllclk) (λ f. refl) (λ f. refl) (λ f n. refl) ∙ ap (λ r. r .usbhspllclk) two) (ok .usbhs);
+      }
+
+  same-self : (k : Clocks) → sameClocks k k ≡ true
+  same-self k =
+      simp (
+        eq-eqb (k .sysclk) (k .sysclk) refl,
+        eq-eqb (k .hclk) (k .hclk) refl,
+        eq-eqb (k .pclk1) (k .pclk1) refl,
+        eq-eqb (k .pclk2) (k .pclk2) refl,
+        eq-eqb (k .«pclk1_tim») (k .«pclk1_tim») refl,
+        eq-eqb (k .«pclk2_tim») (k .«pclk2_tim») refl,
+      )
+
+  -- What holds at step 28.
+  abbrev pub Ends : ℕ → Fields → Type 0
+  Ends k f = (k ≡ 28) × (f ≡ withSeen (written (steps c (x .0)) earlier) (f .seen)) × (decodeOf f (frequencyOf (c .hse)) ≡ gives (x .0))
+
+  decodes : (r : Reading) → eqb (seenOf r .sws) (c .sys) ≡ true → decodeOf (withSeen last (seenOf r)) (frequencyOf (c .hse)) ≡ gives (x .0)
+  decodes r e = laid-decodes c (withSeen last (seenOf r)) q (laid r e)
+
+  agrees : (r : Reading) → eqb (seenOf r .sws) (c .sys) ≡ true → agreesOf c (x .0) (withSeen last (seenOf r)) ≡ true
+  unfolding agreesOf
+  agrees r e = ap (λ (a : Answer Clocks). isClocks a (x .0)) (decodes r e) ∙ same-self (x .0)
+
+  pub ending : Always Ends 1 (steps c (x .0)) earlier
+  ending =
+      always Wide Ends (λ s. eqb (s .sws) (c .sys)) (agreesOf c (x .0)) front (tame-take Wide 26 (steps c (x .0)) (tame c ok (x .0))) tt 1 earlier
+      (λ r e. (agrees r e, (refl, refl, decodes r e)))

@@ -1,0 +1,11 @@
+pub mod Machine
+pub mod Waits
+pub mod Walk
+pub mod Fair
+pub mod Slow
+pub mod Held
+pub mod Accepted
+pub mod Width
+pub mod Ending
+pub mod Third
+pub mod Reached

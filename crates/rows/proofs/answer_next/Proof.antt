@@ -1,0 +1,77 @@
+-- `rows::answer_next` is safe: the bytes asked for were read. Assumes nothing.
+use mathlib.Core.List.{List, _++_}
+use mathlib.Core.Path.{sym}
+use Prim.Native.Nat.{ℕ, _≤_}
+use native.Mathlib.Omega.{arith}
+use borrow.Author.Needs.{needs}
+use lib.ListN.{length, length-append}
+use lib.Seq.{length-take-le}
+use Rattle.rows.proofs.answer_next.Statement.{statement}
+use Rattle.rows.proofs.answer_next.Tie as tie
+
+-- the first n bytes of a buffer of which k were read
+room : (n k : ℕ) (e : List ℕ) → n ≤ k → k ≤ length e → (d : List ℕ) → n ≤ length (e ++ d)
+room n k e h g d = rw length-append (omega arith)
+
+slice-aggregate-read-full : tie.Need-slice-aggregate-read-full
+slice-aggregate-read-full c = search needs
+
+read-full-requires : tie.Need-read-full-requires
+read-full-requires c κs = search needs
+
+returns : tie.Need-returns
+returns c = search needs
+
+array-read-wide : tie.Need-array-read-wide
+array-read-wide c = search needs
+
+wide-requires : tie.Need-wide-requires
+wide-requires c κs = search needs
+
+array-borrow-prefix-input : tie.Need-array-borrow-prefix-input
+array-borrow-prefix-input c = search needs
+
+slice-aggregate-read-full-2 : tie.Need-slice-aggregate-read-full-2
+slice-aggregate-read-full-2 c = sym (length-take-le _ _ (search needs))
+
+read-full-requires-2 : tie.Need-read-full-requires-2
+read-full-requires-2 c κs = search needs
+
+returns-2 : tie.Need-returns-2
+returns-2 c = search needs
+
+array-share-prefix-input : tie.Need-array-share-prefix-input
+array-share-prefix-input c =
+    let read-full2 = c .before .before .read-full2 in
+    let part = read-full2 in
+    room _ (part .result) (part .last .1 .0) (c .if2 .left) (part .ensures .0) _
+
+slice-aggregate-answer : tie.Need-slice-aggregate-answer
+slice-aggregate-answer c =
+    let read-full2 = c .before .before .before .read-full2 in
+    let part = read-full2 in
+    sym (length-take-le _ _ (room _ (part .result) (part .last .1 .0) (c .before .if2 .left) (part .ensures .0) _))
+
+answer-requires : tie.Need-answer-requires
+answer-requires c κs = search needs
+
+returns-3 : tie.Need-returns-3
+returns-3 c = search needs
+
+pub answer-next-spec : {M : Type 1} → statement M
+answer-next-spec =
+    tie.close
+    (tie.spec
+    slice-aggregate-read-full
+    read-full-requires
+    returns
+    array-read-wide
+    wide-requires
+    array-borrow-prefix-input
+    slice-aggregate-read-full-2
+    read-full-requires-2
+    returns-2
+    array-share-prefix-input
+    slice-aggregate-answer
+    answer-requires
+    returns-3)

@@ -1,0 +1,3 @@
+pub mod Skip
+pub mod Unnamed
+pub mod Cases

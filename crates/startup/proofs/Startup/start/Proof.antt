@@ -1,0 +1,66 @@
+use mathlib.Core.Path.{sym}
+use borrow.Author.Needs.{needs}
+use borrow.Author.Tests.{not-true, not-false}
+use Rattle.answer.specs.Answer.{told}
+use Rattle.v4x7.specs.Check.{accepted}
+use Rattle.startup.specs.Call.{startOf}
+use Rattle.startup.proofs.Startup.start.Statement.{statement}
+use Rattle.startup.proofs.Startup.start.Tie as tie
+
+in-width-requires : tie.Need-in-width-requires
+in-width-requires c κs = search needs
+
+returns : tie.Need-returns
+unfolding startOf
+returns c = simp (sym (c .before .in-width .ensures), not-true (c .before .in-width .result) (c .if1 .taken))
+
+clocks-requires : tie.Need-clocks-requires
+clocks-requires c κs = search needs
+
+enum-told : tie.Need-enum-told
+enum-told c = search needs
+
+enum-told-2 : tie.Need-enum-told-2
+enum-told-2 c = search needs
+
+refused-requires : tie.Need-refused-requires
+refused-requires c κs = search needs
+
+returns-2 : tie.Need-returns-2
+unfolding startOf
+returns-2 c =
+    let in-width = c .before .before .before .before .before .in-width in
+    let if1 = c .before .before .before .before .if1 in
+    let clocks = c .before .before .before .clocks in
+    simp (
+      sym (in-width .ensures),
+      not-false (in-width .result) (if1 .left),
+      told accepted (clocks .ensures) (c .before .enum-told2 .given .1),
+      c .refused .ensures,
+      c .before .enum-told2 .given .1,
+    )
+
+returns-3 : tie.Need-returns-3
+unfolding startOf
+returns-3 c =
+    let in-width = c .before .before .before .before .in-width in
+    let if1 = c .before .before .before .if1 in
+    let clocks = c .before .before .clocks in
+    simp (
+      sym (in-width .ensures),
+      not-false (in-width .result) (if1 .left),
+      told accepted (clocks .ensures) (c .enum-told .given .1),
+    )
+
+pub start-spec : {M : Type 1} → statement M
+start-spec =
+    tie.close
+    (tie.spec
+    in-width-requires
+    returns
+    clocks-requires
+    enum-told
+    enum-told-2
+    refused-requires
+    returns-2
+    returns-3)

@@ -1,0 +1,19 @@
+use mathlib.Core.Path.{ap}
+use Prim.Native.Nat.{ℕ, _-_}
+use borrow.Author.Needs.{needs}
+use Rattle.startup.specs.Call.{going, nextOf}
+use Rattle.startup.specs.declared.Report.the-variants.{Worked}
+use Rattle.startup.proofs.onward.Statement.{statement}
+use Rattle.startup.proofs.onward.Tie as tie
+
+next-requires : tie.Need-next-requires
+next-requires c κs = search needs
+
+returns : tie.Need-returns
+unfolding nextOf
+returns c =
+    let args = c .before .before .args in
+    λ x. ap (λ (n : ℕ). record { startup = going (args .s .config) (args .fields) n 0 (args .used); report = Worked (args .s .step) (args .used) }) ((c .next .ensures) x)
+
+pub onward-spec : {M : Type 1} → statement M
+onward-spec = tie.close (tie.spec next-requires returns)

@@ -1,0 +1,133 @@
+use mathlib.Core.Path.{_∙_}
+use Prim.Native.Nat.{_-_}
+use borrow.Author.Needs.{needs}
+use Rattle.startup.proofs.Cases.{place, wrote-step, wait-step, read-step, compare-step, no-step}
+use Rattle.startup.proofs.work.Statement.{statement}
+use Rattle.startup.proofs.work.Tie as tie
+
+seen-of-requires : tie.Need-seen-of-requires
+seen-of-requires c κs = search needs
+
+perform-requires : tie.Need-perform-requires
+perform-requires c κs = search needs
+
+enum-known-written : tie.Need-enum-known-written
+enum-known-written c = search needs
+
+onward-requires : tie.Need-onward-requires
+onward-requires c κs =
+    let args = c .before .before .before .before .before .before .before .args in
+    let seen-of = c .before .before .before .before .seen-of in
+    let perform = c .before .before .before .perform in
+    place 1000000 (args .s) (args .reading) (args .promised) (seen-of .ensures) (perform .ensures) (c .before .written .given .1) tt .1
+
+enum-known-met : tie.Need-enum-known-met
+enum-known-met c = search needs
+
+seeing-requires : tie.Need-seeing-requires
+seeing-requires c κs = search needs
+
+waited-requires : tie.Need-waited-requires
+waited-requires c κs =
+    let args = c .before .before .before .before .before .before .before .before .args in
+    let seen-of = c .before .before .before .before .before .seen-of in
+    let perform = c .before .before .before .before .perform in
+    let met = c .before .before .met in
+    let pre = c .before .before .before .before .before .before .before .before .pre in
+    (place 1000000 (args .s) (args .reading) (args .promised) (seen-of .ensures) (perform .ensures) (met .given .1) tt .1, pre)
+
+enum-known-mode : tie.Need-enum-known-mode
+enum-known-mode c = search needs
+
+seeing-requires-2 : tie.Need-seeing-requires-2
+seeing-requires-2 c κs = search needs
+
+read-back-requires : tie.Need-read-back-requires
+read-back-requires c κs =
+    let args = c .before .before .before .before .before .before .before .before .before .args in
+    let seen-of = c .before .before .before .before .before .before .seen-of in
+    let perform = c .before .before .before .before .before .perform in
+    let mode = c .before .before .before .mode in
+    let pre = c .before .before .before .before .before .before .before .before .before .pre in
+    (place 1000000 (args .s) (args .reading) (args .promised) (seen-of .ensures) (perform .ensures) (mode .given .1) tt .1, pre)
+
+enum-known-same : tie.Need-enum-known-same
+enum-known-same c = search needs
+
+compared-requires : tie.Need-compared-requires
+compared-requires c κs = search needs
+
+enum-told : tie.Need-enum-told
+enum-told c = search needs
+
+handed-back-requires : tie.Need-handed-back-requires
+handed-back-requires c κs = search needs
+
+returns : tie.Need-returns
+returns c =
+    let args = c .before .before .before .before .before .before .before .before .args in
+    let seen-of = c .before .before .before .before .before .seen-of in
+    let perform = c .before .before .before .before .perform in
+    let written = c .before .before .written in
+    (c .onward .ensures) (args .promised) ∙
+    wrote-step 1000000 (args .s) (args .reading) (args .promised) (seen-of .ensures) (perform .ensures) (written .given .1)
+
+returns-2 : tie.Need-returns-2
+returns-2 c =
+    let args = c .before .before .before .before .before .before .before .before .before .args in
+    let seen-of = c .before .before .before .before .before .before .seen-of in
+    let perform = c .before .before .before .before .before .perform in
+    let met = c .before .before .before .met in
+    (c .waited .ensures) (args .promised) ∙
+    wait-step 1000000 (args .s) (args .reading) (args .promised) (seen-of .ensures) (perform .ensures) (c .before .seeing .ensures) (met .given .1)
+
+returns-3 : tie.Need-returns-3
+returns-3 c =
+    let args = c .before .before .before .before .before .before .before .before .before .before .args in
+    let seen-of = c .before .before .before .before .before .before .before .seen-of in
+    let perform = c .before .before .before .before .before .before .perform in
+    let seeing2 = c .before .before .seeing2 in
+    let mode = c .before .before .before .before .mode in
+    (c .read-back .ensures) (args .promised) ∙
+    read-step 1000000 (args .s) (args .reading) (args .promised) (seen-of .ensures) (perform .ensures) (seeing2 .ensures) (mode .given .1)
+
+returns-4 : tie.Need-returns-4
+returns-4 c =
+    let args = c .before .before .before .before .before .before .before .before .args in
+    let seen-of = c .before .before .before .before .before .seen-of in
+    let perform = c .before .before .before .before .perform in
+    let same = c .before .before .same in
+    (c .compared .ensures) ∙
+    compare-step 1000000 (args .s) (args .reading) (args .promised) (seen-of .ensures) (perform .ensures) (same .given .1)
+
+returns-5 : tie.Need-returns-5
+returns-5 c =
+    let args = c .before .before .before .before .before .before .before .args in
+    let seen-of = c .before .before .before .before .seen-of in
+    let perform = c .before .before .before .perform in
+    (c .handed-back .ensures) ∙
+    no-step 1000000 (args .s) (args .reading) (args .promised) (seen-of .ensures) (perform .ensures) (c .before .enum-told .given .1)
+
+pub work-spec : {M : Type 1} → statement M
+work-spec =
+    tie.close
+    (tie.spec
+    seen-of-requires
+    perform-requires
+    enum-known-written
+    onward-requires
+    enum-known-met
+    seeing-requires
+    waited-requires
+    enum-known-mode
+    seeing-requires-2
+    read-back-requires
+    enum-known-same
+    compared-requires
+    enum-told
+    handed-back-requires
+    returns
+    returns-2
+    returns-3
+    returns-4
+    returns-5)

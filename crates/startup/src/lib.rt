@@ -1,0 +1,350 @@
+// The stepwise startup of the V4x7 clocks. A host starts it with a configuration and the fields as they are, then calls `step` with a reading
+// each time, writes the fields that come back to the chip, and goes on until the report says that the startup is running, failed or refused.
+ghost use mathlib.Core.Path.{_≡_};
+ghost use mathlib.Core.Bool.{true, false, cond};
+ghost use Prim.Native.Nat.{_+_, _*_, _≤_, _<_};
+ghost use lib.ListN.{drop};
+ghost use Rattle.tree.specs.declared.Clocks.{Clocks};
+ghost use Rattle.steps.specs.Writes.{withSeen};
+ghost use Rattle.steps.specs.Steps.{steps, from};
+ghost use Rattle.startup.specs.Call.{seenOf, ended, handedBack, moved, unmetOf, waitedOf, readBackOf, comparedOf, worksIn, stepOf, startOf, begun, nextOf, maskOf, waitsOwed, callBound, keyOf};
+use image::Fields;
+use image::Seen;
+use steps::Work;
+use tree::Clocks;
+use v4x7::Checked;
+use v4x7::Config;
+use v4x7::HsPll;
+use v4x7::Hse;
+use v4x7::Pll;
+use v4x7::refused;
+
+// Of a wait's readings, the one that fails it.
+const READINGS: u32 = 1_000_000;
+
+// The most readings that a startup uses: those of eight waits, and step 21's.
+const MOST_READINGS: u32 = 8_000_001;
+
+// What the host read from the chip: the ready bits and SWS, and SCKMOD. Of these two the low two bits count.
+pub struct Reading {
+    pub seen: Seen,
+    pub sckmod: u8,
+}
+
+// What came of a call: the step, and how many readings are used by now.
+pub enum Report {
+    // The step is worked: written, or its reading found right. At 19 the host writes the keys.
+    Worked { step: u8, used: u32 },
+    // The reading did not meet the step's wait.
+    Waiting { step: u8, used: u32 },
+    // Over: the clocks run as the check promised.
+    Running { step: u8, used: u32 },
+    // Over: the step's wait (21) or its flash reading (22) failed.
+    Failed { number: u8, step: u8, used: u32 },
+    // Over, the clocks differing (23); or handed back as it was (28).
+    Refused(u8),
+}
+
+pub enum Phase {
+    Going,
+    // Over, with the last report.
+    Over(Report),
+}
+
+pub struct Startup {
+    pub config: Config,
+    pub fields: Fields,
+    // The step whose turn it is.
+    pub step: u8,
+    // The unmet readings of its wait.
+    pub unmet: u32,
+    // All readings used.
+    pub used: u32,
+    pub phase: Phase,
+}
+
+pub struct Stepped {
+    pub startup: Startup,
+    pub report: Report,
+}
+
+pub enum Started {
+    Begun(Startup),
+    NotStarted(u8),
+}
+
+// A key that the host writes at step 19, and to which register.
+pub enum FlashKey {
+    Keyr(u32),
+    ModeKeyr(u32),
+    NoKey,
+}
+
+// The keys of step 19, in their order: places 0 to 3.
+pub fn flash_key(place: u8) -> FlashKey
+    ensures { λ r. ⌜ r ≡ keyOf place ⌝ }
+{
+    match place {
+        0 => FlashKey::Keyr(0x4567_0123),
+        1 => FlashKey::Keyr(0xcdef_89ab),
+        2 => FlashKey::ModeKeyr(0x4567_0123),
+        3 => FlashKey::ModeKeyr(0xcdef_89ab),
+        _ => FlashKey::NoKey,
+    }
+}
+
+fn bit(on: bool, weight: u32) -> u32
+    ensures { λ r. ⌜ (r ≡ cond on weight 0) × (r ≤ weight) ⌝ }
+{
+    if on { weight } else { 0 }
+}
+
+// What the startup turns on, a bit each: HSE at step 9, ETH PLL at 11, USBHS PLL at 14, main PLL at 17.
+fn mask(c: Config) -> u32
+    ensures { λ r. ⌜ r ≡ maskOf c ⌝ }
+{
+    bit(steps::listed(c, 9), 8)
+        + bit(steps::listed(c, 11), 4)
+        + bit(steps::listed(c, 14), 2)
+        + bit(steps::listed(c, 17), 1)
+}
+
+// How many waits a configuration's startup has: four, and one for each bit of the mask.
+pub fn waits_owed(c: Config) -> u32
+    ensures { λ r. ⌜ r ≡ waitsOwed c ⌝ }
+{
+    4 + u32::count_ones(mask(c))
+}
+
+// The startup is over within so many calls.
+pub fn call_bound(c: Config) -> u32
+    ensures { λ r. ⌜ r ≡ callBound c ⌝ }
+{
+    READINGS * waits_owed(c) + 20
+}
+
+// A reading's ready bits and SWS.
+fn seen_of(reading: Reading) -> Seen
+    ensures { λ r. ⌜ r ≡ seenOf reading ⌝ }
+{
+    let sws = reading.seen.sws % 4;
+    let mut seen = reading.seen;
+    seen.sws = sws;
+    seen
+}
+
+fn seeing(fields: Fields, seen: Seen) -> Fields
+    ensures { λ r. ⌜ r ≡ withSeen fields seen ⌝ }
+{
+    let mut f = fields;
+    f.seen = seen;
+    f
+}
+
+// A startup that no starting leads to is handed back as it was.
+fn handed_back(s: Startup) -> Stepped
+    ensures { λ r. ⌜ r ≡ handedBack s ⌝ }
+{
+    Stepped {
+        startup: s,
+        report: Report::Refused(answer::CODE_NOT_ALLOWED),
+    }
+}
+
+// The next step whose part is there.
+fn next(config: Config, step: u8) -> u8
+    requires { ⌜ step < 28 ⌝ }
+    ensures { λ r. ⌜ ((promised : Clocks) → r ≡ nextOf config promised step) ⌝ }
+{
+    let mut n = step + 1;
+    while n < 28 {
+        if steps::listed(config, n) {
+            return n;
+        }
+        n += 1;
+    }
+    n
+}
+
+// The step is worked: on to the next, with these fields and so many readings used.
+fn onward(s: Startup, fields: Fields, used: u32) -> Stepped
+    requires { ⌜ s .step < 28 ⌝ }
+    ensures { λ r. ⌜ ((promised : Clocks) → r ≡ moved s (drop (s .step) (steps (s .config) promised)) fields used) ⌝ }
+{
+    let config = s.config;
+    let step = s.step;
+    let n = next(config, step);
+    Stepped {
+        startup: Startup {
+            config,
+            fields,
+            step: n,
+            unmet: 0,
+            used,
+            phase: Phase::Going,
+        },
+        report: Report::Worked { step, used },
+    }
+}
+
+fn over(s: Startup, fields: Fields, unmet: u32, used: u32, last: Report) -> Stepped
+    ensures { λ r. ⌜ r ≡ ended s fields unmet used last ⌝ }
+{
+    let config = s.config;
+    Stepped {
+        startup: Startup {
+            config,
+            fields,
+            step: s.step,
+            unmet,
+            used,
+            phase: Phase::Over(last),
+        },
+        report: last,
+    }
+}
+
+// A reading did not meet the step's wait, which fails at the last of its readings.
+fn unmet(s: Startup, fields: Fields) -> Stepped
+    requires { ⌜ (s .unmet < 1000000) × (s .used ≤ 8000001) ⌝ }
+    ensures { λ r. ⌜ r ≡ unmetOf 1000000 s fields ⌝ }
+{
+    let config = s.config;
+    let step = s.step;
+    let unmet = s.unmet + 1;
+    let used = s.used + 1;
+    if unmet < READINGS {
+        return Stepped {
+            startup: Startup {
+                config,
+                fields,
+                step,
+                unmet,
+                used,
+                phase: Phase::Going,
+            },
+            report: Report::Waiting { step, used },
+        };
+    }
+    let last = Report::Failed {
+        number: answer::WAIT_FAILED,
+        step,
+        used,
+    };
+    over(s, fields, unmet, used, last)
+}
+
+fn waited(s: Startup, fields: Fields, met: bool) -> Stepped
+    requires { ⌜ (s .step < 28) × (s .used ≤ 8000001) ⌝ }
+    ensures { λ r. ⌜ ((promised : Clocks) → r ≡ waitedOf 1000000 s (drop (s .step) (steps (s .config) promised)) fields met) ⌝ }
+{
+    if READINGS <= s.unmet {
+        return handed_back(s);
+    }
+    if met {
+        return onward(s, fields, s.used + 1);
+    }
+    unmet(s, fields)
+}
+
+fn read_back(s: Startup, fields: Fields, right: bool) -> Stepped
+    requires { ⌜ (s .step < 28) × (s .used ≤ 8000001) ⌝ }
+    ensures { λ r. ⌜ ((promised : Clocks) → r ≡ readBackOf s (drop (s .step) (steps (s .config) promised)) fields right) ⌝ }
+{
+    let step = s.step;
+    let used = s.used + 1;
+    if right {
+        return onward(s, fields, used);
+    }
+    let last = Report::Failed {
+        number: answer::FLASH_MODE_DIFFERS,
+        step,
+        used,
+    };
+    over(s, fields, s.unmet, used, last)
+}
+
+fn compared(s: Startup, same: bool) -> Stepped
+    ensures { λ r. ⌜ r ≡ comparedOf s same ⌝ }
+{
+    let fields = s.fields;
+    let step = s.step;
+    let used = s.used;
+    if same {
+        return over(s, fields, s.unmet, used, Report::Running { step, used });
+    }
+    over(
+        s,
+        fields,
+        s.unmet,
+        used,
+        Report::Refused(answer::CLOCKS_DIFFER),
+    )
+}
+
+// One step's work done or one reading used, the check having promised these clocks.
+fn work(s: Startup, promised: Clocks, reading: Reading) -> Stepped
+    requires { ⌜ s .used ≤ 8000001 ⌝ }
+    ensures { λ r. ⌜ r ≡ worksIn 1000000 s reading (from (s .step) (steps (s .config) promised)) ⌝ }
+{
+    let config = s.config;
+    let fields = s.fields;
+    let seen = seen_of(reading);
+    match steps::perform(config, promised, s.step, fields, seen) {
+        Work::Wrote(written) => onward(s, written, s.used),
+        Work::Waits(met) => waited(s, seeing(fields, seen), met),
+        Work::Reads(mode) => read_back(s, seeing(fields, seen), reading.sckmod % 4 == mode),
+        Work::Compares(same) => compared(s, same),
+        Work::NotListed => handed_back(s),
+    }
+}
+
+impl Startup {
+    // Starting: 28 for a code, then the check's refusals; it works no step.
+    pub fn start(config: Config, earlier: Fields) -> Started
+        ensures { λ r. ⌜ begun r ≡ startOf config earlier ⌝ }
+    {
+        if !image::in_width(earlier) {
+            return Started::NotStarted(answer::CODE_NOT_ALLOWED);
+        }
+        let checked = config.clocks();
+        let Checked::Accepted { clocks: _, adc: _ } = checked else {
+            return Started::NotStarted(refused(checked));
+        };
+        Started::Begun(Startup {
+            config,
+            fields: earlier,
+            step: 1,
+            unmet: 0,
+            used: 0,
+            phase: Phase::Going,
+        })
+    }
+
+    // One call: one step's work done or one reading used.
+    pub fn step(self, reading: Reading) -> Stepped
+        ensures { λ r. ⌜ r ≡ stepOf self reading ⌝ }
+    {
+        let config = self.config;
+        let fields = self.fields;
+        let phase = self.phase;
+        let checked = config.clocks();
+        let number = refused(checked);
+        if (number == answer::CODE_NOT_ALLOWED) | !image::in_width(fields) {
+            return handed_back(self);
+        }
+        if let Phase::Over(last) = phase {
+            return Stepped {
+                startup: self,
+                report: last,
+            };
+        }
+        let Checked::Accepted { clocks, adc: _ } = checked else {
+            return handed_back(self);
+        };
+        if !steps::listed(config, self.step) | (MOST_READINGS < self.used) {
+            return handed_back(self);
+        }
+        work(self, clocks, reading)
+    }
+}

@@ -1,0 +1,119 @@
+//! The queries of a run: every combination first where that can be had, then random ones; the same from the same seed.
+
+mod check;
+mod codec;
+pub mod config;
+mod family;
+mod fields;
+pub mod good;
+mod h4;
+pub mod random;
+pub mod startup;
+mod wide;
+
+use crate::record::Query;
+use random::Random;
+
+/// A set of all combinations of something: how many, how many of them the recorded list takes, and each by its place.
+type Set = (usize, usize, fn(usize) -> Query);
+
+const SETS: [Set; 24] = [
+    (check::DIVIDERS, 90, check::dividers),
+    (check::MULTIPLIERS, 90, check::multipliers),
+    (check::LIMITS, 180, check::limits),
+    (fields::DIVIDERS, 90, fields::dividers),
+    (fields::MULTIPLIERS, 90, fields::multipliers),
+    (fields::ADCS, 90, fields::adcs),
+    (fields::ADC_DIVISORS, 90, fields::adc_divisors),
+    (fields::RNGS, 90, fields::rngs),
+    (family::DIVIDERS, 90, family::dividers),
+    (family::V1_MULTIPLIERS, 90, family::v1_multipliers),
+    (family::V30X_MULTIPLIERS, 90, family::v30x_multipliers),
+    (family::CHOICES, 90, family::choices),
+    (family::USBHS, 90, family::usbhs),
+    (h4::AHBS, 90, h4::ahbs),
+    (h4::HCLKS, 90, h4::hclks),
+    (h4::PCLKS, 90, h4::pclks),
+    (h4::MULTIPLIERS, 90, h4::multipliers),
+    (codec::DAMAGED, 90, codec::damaged),
+    (codec::LENGTHS, 90, codec::lengths),
+    (codec::BITS, 90, codec::bits),
+    (startup::STOPPED, 150, startup::stopped),
+    (startup::MODES, 90, startup::modes),
+    (startup::LONG, 0, startup::long),
+    (fields::SELECTIONS, 400, fields::selections),
+];
+
+pub fn random_query(r: &mut Random) -> Query {
+    match r.below(32) {
+        0..=9 => check::random(r),
+        10..=13 => fields::random_decode(r),
+        14 => fields::random_ask(r),
+        15..=18 => startup::random(r),
+        19 => startup::call(r),
+        20..=22 => codec::random(r),
+        23..=29 => family::random(r),
+        30 => h4::random(r),
+        _ => wide::random(r),
+    }
+}
+
+/// The queries of a run: the sets, then random ones; cut off after `count`.
+#[derive(Clone)]
+pub struct Queries {
+    random: Random,
+    set: usize,
+    at: usize,
+    left: usize,
+}
+
+impl Queries {
+    pub fn new(seed: u64, count: usize) -> Queries {
+        Queries {
+            random: Random(seed),
+            set: 0,
+            at: 0,
+            left: count,
+        }
+    }
+}
+
+impl Iterator for Queries {
+    type Item = Query;
+
+    fn next(&mut self) -> Option<Query> {
+        if self.left == 0 {
+            return None;
+        }
+        self.left -= 1;
+        while self.set < SETS.len() && self.at == SETS[self.set].0 {
+            self.set += 1;
+            self.at = 0;
+        }
+        if self.set == SETS.len() {
+            return Some(random_query(&mut self.random));
+        }
+        self.at += 1;
+        Some((SETS[self.set].2)(self.at - 1))
+    }
+}
+
+/// The queries of the recorded list: some of each set, then random ones. Long waits are few: a gate replays them.
+pub fn recorded(r: &mut Random) -> Vec<Query> {
+    let mut queries = Vec::new();
+    for (size, wanted, query) in SETS {
+        for i in 0..wanted.min(size) {
+            let at = if wanted < size {
+                r.below(size as u32) as usize
+            } else {
+                i
+            };
+            queries.push(query(at));
+        }
+    }
+    // A timeout at the first wait, and the last wait met at its 1,000,000th reading.
+    queries.push(startup::long(0));
+    queries.push(startup::last_moment());
+    queries.extend((0..2_000).map(|_| random_query(r)));
+    queries
+}

@@ -1,0 +1,32 @@
+//! What document 01 decides and the Rust doesn't: refusals that only the port has, the codecs, a startup's single call,
+//! and the listed differences.
+
+pub mod call;
+pub mod codec;
+pub mod codes;
+pub mod layout;
+
+use crate::record::*;
+
+/// The answer where the Rust has none to give: its types don't hold the query, or it has no such call.
+pub fn alone(q: &Query) -> Option<Answer> {
+    match q[0] {
+        CALL => Some(call::answer(q)),
+        READ_PROFILE => Some(codec::read_profile(q)),
+        WRITE_PROFILE => Some(codec::write_profile(q)),
+        READ_IMAGE => Some(codec::read_image(q)),
+        WRITE_IMAGE => Some(codec::write_image(q)),
+        kind if !codes::allowed(q) => Some(refused(kind, 28)),
+        _ => None,
+    }
+}
+
+/// Listed differences: the Rust has an answer, and document 01 another.
+/// V30x decoder: 27 where the PLL is in use and runs from HSE with PREDIV1SRC set. The Rust doesn't look at PREDIV1SRC.
+pub fn listed(q: &Query) -> Option<Answer> {
+    let (sws, pllsrc, prediv1src) = (q[1], q[2], q[4]);
+    if q[0] == V30X_DECODE && sws == 2 && pllsrc != 0 && prediv1src != 0 {
+        return Some(refused(V30X_DECODE, 27));
+    }
+    None
+}
