@@ -6,14 +6,11 @@ use v4x7::Checked;
 
 pub fn check(q: &[u8; 128]) -> [u8; 64] {
     let config = query::config(q);
-    match config.clocks() {
-        Checked::Refused(n) => reply::empty(1, n),
-        Checked::Accepted { clocks, adc } => reply::word(
-            reply::clocks(reply::empty(1, 0), 2, clocks),
-            26,
-            adc,
-        ),
-    }
+    let checked = config.clocks();
+    let Checked::Accepted { clocks, adc } = checked else {
+        return reply::empty(1, v4x7::refused(checked));
+    };
+    reply::word(reply::clocks(reply::empty(1, 0), 2, clocks), 26, adc)
 }
 
 pub fn decode(q: &[u8; 128]) -> [u8; 64] {

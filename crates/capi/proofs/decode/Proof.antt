@@ -1,0 +1,42 @@
+use mathlib.Core.Path.{sym}
+use borrow.Author.Needs.{needs}
+use Rattle.answer.specs.Answer.{told}
+use Rattle.image.specs.Image.{imageRead}
+use Rattle.capi.specs.Calls.{decodeRead}
+use Rattle.capi.proofs.decode.Statement.{statement}
+use Rattle.capi.proofs.decode.Tie as tie
+
+read-image-requires : tie.Need-read-image-requires
+read-image-requires c κs = search needs
+
+enum-known-n : tie.Need-enum-known-n
+enum-known-n c = search needs
+
+enum-known-fields : tie.Need-enum-known-fields
+enum-known-fields c = search needs
+
+hse-requires : tie.Need-hse-requires
+hse-requires c κs = search needs
+
+decode-requires : tie.Need-decode-requires
+decode-requires c κs = search needs
+
+returns : tie.Need-returns
+unfolding decodeRead
+returns c = simp (told imageRead (c .before .before .before .read-image .ensures) (c .before .n .given .1))
+
+returns-2 : tie.Need-returns-2
+unfolding decodeRead
+returns-2 c = simp (told imageRead (c .before .before .before .before .before .read-image .ensures) (c .before .before .before .fields .given .1), sym (c .before .hse .ensures)) (c .decode .ensures)
+
+pub decode-spec : {M : Type 1} → statement M
+decode-spec =
+    tie.close
+    (tie.spec
+    read-image-requires
+    enum-known-n
+    enum-known-fields
+    hse-requires
+    decode-requires
+    returns
+    returns-2)
