@@ -1,122 +1,133 @@
 /* The clock library's calls for C99 and C++.
  *
- * Every call returns a number: 0, or the refusal that comes first in document 01's order (wontabeli_refusals.h, docs/REFUSALS.md).
- * What a call gives goes into memory that the caller lends, at its start. After a refusal every lent byte is as it was; after a call that
- * is not refused the bytes beyond the record are. Numbers of several bytes have the most significant byte first.
+ * Every call returns a number: 0, or the refusal that comes first in document 01's order (wontabeli_numbers.h, docs/REFUSALS.md).
+ * What a call gives goes into memory that the caller lends, at its start: frequencies as words of 32 bits, records as bytes. After a refusal
+ * nothing that was lent is touched; after a call that is not refused what is beyond the record isn't. A number of several bytes in a record has
+ * the most significant byte first. A byte that says yes or no is 1 or 0.
  *
- * A pointer is valid for its length, and lent memory overlaps nothing else that the call is handed. Lengths are never trusted otherwise: one
- * that doesn't fit is refused. Memory that is lent for output is tested first (32). No call keeps a pointer, allocates, or has a state.
+ * A pointer is valid and aligned for its type and its length, and lent memory overlaps nothing else that the call is handed. Lengths are never
+ * trusted otherwise: one that doesn't fit is refused. A length that is lent for output is tested first (32). No call keeps a pointer, allocates,
+ * or has a state. Lengths of words count words.
+ *
+ * All sizes and places are in wontabeli_numbers.h.
  */
 #ifndef WONTABELI_H
 #define WONTABELI_H
 
 #include <stddef.h>
 #include <stdint.h>
-#include "wontabeli_refusals.h"
+#include "wontabeli_numbers.h"
 
 #ifdef __cplusplus
 extern "C" {
 #endif
 
-/* Sizes in bytes. */
-#define WONTABELI_PROFILE_SIZE 10
-#define WONTABELI_IMAGE_SIZE 8
-#define WONTABELI_CHECK_SIZE 28  /* seven frequencies */
-#define WONTABELI_CLOCKS_SIZE 24 /* six frequencies */
-#define WONTABELI_QUERY_SIZE 5   /* ready, frequency */
-#define WONTABELI_PLACE_SIZE 32  /* a startup */
+/* ---- CH32V4x7: the check, the decoder, the queries ---- */
 
-/* Where the frequencies stand in what wontabeli_check and wontabeli_decode give; the last in wontabeli_check's alone. */
-#define WONTABELI_SYSCLK 0
-#define WONTABELI_HCLK 4
-#define WONTABELI_PCLK1 8
-#define WONTABELI_PCLK2 12
-#define WONTABELI_PCLK1_TIM 16
-#define WONTABELI_PCLK2_TIM 20
-#define WONTABELI_ADC 24
+/* Checks a profile of ten bytes. Gives CHECK_WORDS words: SYSCLK, HCLK, PCLK1, PCLK2, the timers' clocks of PCLK1 and PCLK2, the ADC's frequency.
+ * Refused by 32, 29 (profile_len not 10), 30, then by the check's 1 to 15. */
+uint8_t wontabeli_check(const uint8_t *profile, size_t profile_len, uint32_t *out, size_t out_len);
 
-/* Checks a profile. Gives SYSCLK, HCLK, PCLK1, PCLK2, the timers' clocks of PCLK1 and PCLK2, and the ADC's frequency.
- * Refused by 32 (out_len below 28), 29 (profile_len not 10), 30, then by the check's 1 to 15. */
-uint8_t wontabeli_check(const uint8_t *profile, size_t profile_len, uint8_t *out, size_t out_len);
+/* Decodes an image of eight bytes, with HSE's frequency in Hz, or 0 where there is no HSE. Gives CLOCKS_WORDS words, the clocks in the same order.
+ * Refused by 32, 31 (image_len not 8, or filling), then by 3, 4, 5, 6, 8, 12, 17, 18, 19, 20. */
+uint8_t wontabeli_decode(const uint8_t *image, size_t image_len, uint32_t hse, uint32_t *out, size_t out_len);
 
-/* Decodes an image of the registers, with HSE's frequency in Hz, or 0 where there is no HSE. Gives the first six frequencies.
- * Refused by 32 (out_len below 24), 31 (image_len not 8, or filling), then 3, 4, 5, 6, 8, 12, 17, 18, 19, 20. */
-uint8_t wontabeli_decode(const uint8_t *image, size_t image_len, uint32_t hse, uint8_t *out, size_t out_len);
+/* The ADC's frequency by an image, and the RNG source's, with the SYSCLK in Hz. Gives PAIR_WORDS words: 1 and the frequency; or zeros where the PLL
+ * that it runs from is not ready. Refused by 32, 31. */
+uint8_t wontabeli_adc(const uint8_t *image, size_t image_len, uint32_t sysclk, uint32_t *out, size_t out_len);
+uint8_t wontabeli_rng(const uint8_t *image, size_t image_len, uint32_t sysclk, uint32_t *out, size_t out_len);
 
-/* The ADC's frequency by an image, and the RNG source's, with the SYSCLK in Hz. Gives a byte 1 and the frequency; or five zeros where the PLL
- * that it runs from is not ready. Refused by 32 (out_len below 5), then by 31. */
-uint8_t wontabeli_adc(const uint8_t *image, size_t image_len, uint32_t sysclk, uint8_t *out, size_t out_len);
-uint8_t wontabeli_rng(const uint8_t *image, size_t image_len, uint32_t sysclk, uint8_t *out, size_t out_len);
+/* ---- CH32V4x7: profiles and images, and their fields one a byte (WONTABELI_PROFILE_.., WONTABELI_IMAGE_..) ---- */
 
-/* A startup is kept by the host in a place of 32 bytes, which it hands to each call unchanged:
+/* The fields of a profile, PROFILE_FIELDS bytes. Refused by 32, 29, 30. */
+uint8_t wontabeli_read_profile(const uint8_t *profile, size_t profile_len, uint8_t *out, size_t out_len);
+
+/* The profile of PROFILE_FIELDS fields, PROFILE_SIZE bytes. Refused by 32; by 30: another number of fields, a code too wide, or what the reader
+ * would refuse. */
+uint8_t wontabeli_write_profile(const uint8_t *fields, size_t fields_len, uint8_t *out, size_t out_len);
+
+/* The fields of an image, IMAGE_FIELDS bytes. Refused by 32, 31. */
+uint8_t wontabeli_read_image(const uint8_t *image, size_t image_len, uint8_t *out, size_t out_len);
+
+/* The image of IMAGE_FIELDS fields, IMAGE_SIZE bytes. Refused by 32; by 28: another number of fields, a code too wide, or a filling not zero. */
+uint8_t wontabeli_write_image(const uint8_t *fields, size_t fields_len, uint8_t *out, size_t out_len);
+
+/* ---- CH32V4x7: the startup ----
+ *
+ * The host keeps a startup in a place of PLACE_SIZE bytes, which it hands to each call unchanged:
  *   0..9    the profile
  *   10..17  the image: after a call the host writes its fields to the chip
  *   18      the step whose turn it is
  *   19..22  the unmet readings of its wait
  *   23..26  all readings used
  *   27      0 going; 1 over and running; 21, 22 or 23 over by that refusal
- *   28      how the last call went (WONTABELI_WORKED ..)
+ *   28      how the last call went: WORKED (the step is worked), WAITING (the reading did not meet the step's wait), RUNNING (over: the clocks run
+ *           as the check promised), FAILED (over, by the refusal in byte 29)
  *   29      its refusal: 0, 21, 22 or 23
  *   30      the step that it names: at 19 the host writes the keys; 0 before the first call and with 23
  *   31      zero
  * A call doesn't look at the last four. */
-#define WONTABELI_PLACE_IMAGE 10
-#define WONTABELI_PLACE_STEP 18
-#define WONTABELI_PLACE_UNMET 19
-#define WONTABELI_PLACE_USED 23
-#define WONTABELI_PLACE_PHASE 27
-#define WONTABELI_PLACE_WENT 28
-#define WONTABELI_PLACE_NUMBER 29
-#define WONTABELI_PLACE_NAMED 30
-
-#define WONTABELI_WORKED 0  /* the step is worked */
-#define WONTABELI_WAITING 1 /* the reading did not meet the step's wait */
-#define WONTABELI_RUNNING 2 /* over: the clocks run as the check promised */
-#define WONTABELI_FAILED 3  /* over, by the refusal in byte 29 */
 
 /* Starts a startup with a profile and the image of the registers as they are. It works no step.
- * Refused by 32 (place_len below 32), 29, 30, 31, then by the check's 1 to 15. */
+ * Refused by 32, 29, 30, 31, then by the check's 1 to 15. */
 uint8_t wontabeli_start(const uint8_t *profile, size_t profile_len, const uint8_t *image, size_t image_len, uint8_t *place, size_t place_len);
 
-/* A reading of the chip: the ready bits, SWS and SCKMOD. The bits above are not looked at. */
-#define WONTABELI_HSIRDY 0x001u
-#define WONTABELI_HSERDY 0x002u
-#define WONTABELI_PLLRDY 0x004u
-#define WONTABELI_USBHS_PLLRDY 0x008u
-#define WONTABELI_ETH_PLLRDY 0x010u
-#define WONTABELI_SWS_SHIFT 5
-#define WONTABELI_SCKMOD_SHIFT 7
-
-/* One call: one step's work done or one reading used; the place says how it went. After the end it repeats its last answer.
- * Refused by 32 (place_len below 32); by 30, 31 or 28 where no starting leads to these bytes, which then stay. */
+/* One call: one step's work done or one reading used; the place says how it went. After the end it repeats its last answer. The reading is the sum
+ * of HSIRDY, HSERDY, PLLRDY, USBHS_PLLRDY and ETH_PLLRDY where they are set, SWS times its value and SCKMOD times its value; bits above are not looked at.
+ * Refused by 32; by 30, 31 or 28 where no starting leads to these bytes, which then stay. */
 uint8_t wontabeli_step(uint8_t *place, size_t place_len, uint16_t reading);
 
-/* At step 19 the host writes both keys to KEYR, then both to MODEKEYR. */
-#define WONTABELI_FLASH_KEY1 0x45670123u
-#define WONTABELI_FLASH_KEY2 0xCDEF89ABu
+/* The keys that the host writes when a call names step 19, in their order: positions 0 to 3. Gives PAIR_WORDS words: 0 (KEYR) or 1 (MODEKEYR), and
+ * the key. Refused by 32; by 28 above 3. */
+uint8_t wontabeli_flash_key(uint8_t position, uint32_t *out, size_t out_len);
 
-/* CH32V1 (part 0) and CH32L1 (part 1). A configuration has 14 bytes, the fields of the registers 8; a byte that says yes or no is 1 or 0.
- *   configuration: 0 HSE present, 1 bypass, 2..5 its frequency, 6 the system clock's code, 7 PLL from HSE, 8 PLL present, 9 its input halved,
- *                  10 its multiplier's code, 11 AHB, 12 APB1, 13 APB2. What belongs to an absent part is not used.
- *   fields:        0 SWS, 1 PLLSRC, 2 PLLXTPRE, 3 PLLMUL, 4 HPRE, 5 PPRE1, 6 PPRE2, 7 the HSI predivider bit (1: by 1, 0: by 2)
- * Both are refused by 32 (out_len too small), then by 28: another part or length, a byte neither yes nor no, a code too wide. */
-#define WONTABELI_V1_CONFIG_SIZE 14
-#define WONTABELI_V1_FIELDS_SIZE 8
-#define WONTABELI_V1_CHECK_SIZE 25
+/* How many waits a profile's startup has, and within how many calls it is over. Refused by 29, 30. */
+uint8_t wontabeli_waits_owed(const uint8_t *profile, size_t profile_len, uint32_t *out);
+uint8_t wontabeli_call_bound(const uint8_t *profile, size_t profile_len, uint32_t *out);
 
-/* Checks a configuration. Gives the six frequencies, and in byte 24 twice the USB divisor for 48 MHz, or 0 where there is none.
- * Then refused by 3, 24, 20, 26. */
-uint8_t wontabeli_v1_check(uint8_t part, const uint8_t *config, size_t config_len, uint8_t *out, size_t out_len);
+/* ---- CH32V1 (part 0) and CH32L1 (part 1) ----
+ *
+ * A configuration has V1_CONFIG_SIZE bytes: 0 HSE present, 1 bypass, 2..5 its frequency, 6 the system clock's code, 7 PLL from HSE, 8 PLL present,
+ * 9 its input halved, 10 its multiplier's code, 11 AHB, 12 APB1, 13 APB2. What belongs to an absent part is zero.
+ * The fields of the registers have V1_FIELDS_SIZE: 0 SWS, 1 PLLSRC, 2 PLLXTPRE, 3 PLLMUL, 4 HPRE, 5 PPRE1, 6 PPRE2, 7 the HSI predivider bit (1: by 1,
+ * 0: by 2). All three calls are refused by 32, then by 28: another part or length, a byte neither yes nor no, an absent part's not zero, a code too wide. */
 
-/* Decodes fields, with HSE's frequency in Hz, or 0 where there is no HSE. Gives the six frequencies. Then refused by 3, 24. */
-uint8_t wontabeli_v1_decode(uint8_t part, const uint8_t *fields, size_t fields_len, uint32_t hse, uint8_t *out, size_t out_len);
+/* Checks a configuration. Gives CHECK_WORDS words: the clocks, and twice the USB divisor for 48 MHz, or 0 where there is none. Then refused by 3, 24, 20, 26. */
+uint8_t wontabeli_v1_check(uint8_t part, const uint8_t *config, size_t config_len, uint32_t *out, size_t out_len);
 
-/* CH32H4: the clocks of a SYSCLK in Hz and the codes of the four prescalers. Gives the six frequencies, and in bytes 24..27 the AHB clock.
- * Refused by 32 (out_len below 28), then by 28. */
-uint8_t wontabeli_h4_clocks(uint32_t sysclk, uint8_t hpre, uint8_t fpre, uint8_t ppre1, uint8_t ppre2, uint8_t *out, size_t out_len);
+/* Decodes fields, with HSE's frequency in Hz, or 0 where there is no HSE. Gives CLOCKS_WORDS words. Then refused by 3, 24. */
+uint8_t wontabeli_v1_decode(uint8_t part, const uint8_t *fields, size_t fields_len, uint32_t hse, uint32_t *out, size_t out_len);
 
-/* CH32H4: the PLL multiplier at a position of the list, doubled, in four bytes. Refused by 32 (out_len below 4), then by 28 (above 31). */
-uint8_t wontabeli_h4_multiplier(uint8_t position, uint8_t *out, size_t out_len);
+/* The fields that starting a configuration leaves, over earlier fields: V1_FIELDS_SIZE bytes. Then refused as the check is. */
+uint8_t wontabeli_v1_init_fields(uint8_t part, const uint8_t *config, size_t config_len, const uint8_t *earlier, size_t earlier_len, uint8_t *out, size_t out_len);
+
+/* ---- CH32V30x ----
+ *
+ * A configuration has V30X_CONFIG_SIZE bytes: 0 HSE present, 1 bypass, 2..5 its frequency, 6 the system clock's code, 7 PLL source (0 HSI, 1 HSE,
+ * 2 PLL2), 8 PLL present, 9 predivider less one, 10 multiplier's code, 11 PLL2 or PLL3 asked for, 12 AHB, 13 APB1, 14 APB2, 15 USBHS from HSE,
+ * 16 USBHS present, 17 its prescaler less one. What belongs to an absent part is zero.
+ * The fields of the registers have V30X_FIELDS_SIZE: 0 SWS, 1 PLLSRC, 2 PREDIV1, 3 PREDIV1SRC, 4 PLLMUL, 5 HPRE, 6 PPRE1, 7 PPRE2, 8 the HSI predivider
+ * bit. Refused by 32 and 28 as V1's calls are. */
+
+/* As V1's. The check is then refused by 27, 3, 24, 25, 8, 20, 26; the decoder by 27, 3, 24. */
+uint8_t wontabeli_v30x_check(const uint8_t *config, size_t config_len, uint32_t *out, size_t out_len);
+uint8_t wontabeli_v30x_decode(const uint8_t *fields, size_t fields_len, uint32_t hse, uint32_t *out, size_t out_len);
+uint8_t wontabeli_v30x_init_fields(const uint8_t *config, size_t config_len, const uint8_t *earlier, size_t earlier_len, uint8_t *out, size_t out_len);
+
+/* ---- CH32H4: arithmetic ---- */
+
+/* The clocks of a SYSCLK in Hz and the codes of the four prescalers. Gives CHECK_WORDS words: the clocks, and the AHB clock. Refused by 32, then by 28. */
+uint8_t wontabeli_h4_clocks(uint32_t sysclk, uint8_t hpre, uint8_t fpre, uint8_t ppre1, uint8_t ppre2, uint32_t *out, size_t out_len);
+
+/* Its single steps: the AHB clock after HPRE (28), HCLK after FPRE (of which two bits count: never refused). */
+uint8_t wontabeli_h4_ahb(uint32_t sysclk, uint8_t hpre, uint32_t *out);
+uint8_t wontabeli_h4_hclk(uint32_t ahb, uint8_t fpre, uint32_t *out);
+
+/* PCLK after PPRE and its timers' clock, PAIR_WORDS words. Refused by 32, then by 28. */
+uint8_t wontabeli_h4_pclk(uint32_t hclk, uint8_t ppre, uint32_t *out, size_t out_len);
+
+/* The PLL's multiplier at a position of the list, doubled. Refused by 28 (above 31). */
+uint8_t wontabeli_h4_multiplier(uint8_t position, uint32_t *out);
 
 #ifdef __cplusplus
 }

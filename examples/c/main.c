@@ -15,21 +15,23 @@ struct chip {
 /* What the chip's registers read as: what is on is ready, and the clock that was asked for is in use. */
 static uint16_t read_chip(const struct chip *chip)
 {
-    const uint8_t *b = chip->image;
-    unsigned reading = 0;
-    if (b[0] & 0x80) reading |= WONTABELI_HSIRDY;
-    if ((b[0] & 0x20) && chip->crystal) reading |= WONTABELI_HSERDY;
-    if (b[0] & 0x08) reading |= WONTABELI_PLLRDY;
-    if (b[0] & 0x04) reading |= WONTABELI_USBHS_PLLRDY;
-    if (b[0] & 0x02) reading |= WONTABELI_ETH_PLLRDY;
-    reading |= (b[1] & 3u) << WONTABELI_SWS_SHIFT;
-    reading |= ((b[6] & 1u) << 1 | b[7] >> 7) << WONTABELI_SCKMOD_SHIFT;
-    return (uint16_t)reading;
+    uint8_t f[WONTABELI_IMAGE_FIELDS] = {0};
+    wontabeli_read_image(chip->image, sizeof chip->image, f, sizeof f);
+    return (uint16_t)(f[WONTABELI_IMAGE_HSION] * WONTABELI_HSIRDY
+        + (f[WONTABELI_IMAGE_HSEON] && chip->crystal) * WONTABELI_HSERDY
+        + f[WONTABELI_IMAGE_PLLON] * WONTABELI_PLLRDY
+        + f[WONTABELI_IMAGE_USBHS_PLLON] * WONTABELI_USBHS_PLLRDY
+        + f[WONTABELI_IMAGE_ETH_PLLON] * WONTABELI_ETH_PLLRDY
+        + f[WONTABELI_IMAGE_SW] * WONTABELI_SWS
+        + f[WONTABELI_IMAGE_SCKMOD] * WONTABELI_SCKMOD);
 }
 
-static unsigned long word(const uint8_t *b)
+/* At step 19 the host writes the keys, each to its register. */
+static void write_keys(struct chip *chip)
 {
-    return (unsigned long)b[0] << 24 | (unsigned long)b[1] << 16 | (unsigned long)b[2] << 8 | b[3];
+    uint32_t key[WONTABELI_PAIR_WORDS];
+    uint8_t position;
+    for (position = 0; wontabeli_flash_key(position, key, WONTABELI_PAIR_WORDS) == 0; position++) chip->keys += 1;
 }
 
 static int start(int crystal)
@@ -37,34 +39,37 @@ static int start(int crystal)
     struct chip chip = {{0}, 0, 0};
     uint8_t place[WONTABELI_PLACE_SIZE];
     uint8_t number = wontabeli_start(profile, sizeof profile, chip.image, sizeof chip.image, place, sizeof place);
+    const uint8_t *used = place + WONTABELI_PLACE_USED;
+    unsigned long readings;
     chip.crystal = crystal;
     while (number == 0 && place[WONTABELI_PLACE_PHASE] == 0) {
         number = wontabeli_step(place, sizeof place, read_chip(&chip));
         memcpy(chip.image, place + WONTABELI_PLACE_IMAGE, sizeof chip.image);
-        if (place[WONTABELI_PLACE_NAMED] == 19) chip.keys += 1;
+        if (place[WONTABELI_PLACE_NAMED] == 19) write_keys(&chip);
     }
     if (number != 0) {
         printf("refused %u\n", number);
         return 1;
     }
+    readings = (unsigned long)used[0] << 24 | (unsigned long)used[1] << 16 | (unsigned long)used[2] << 8 | used[3];
     if (place[WONTABELI_PLACE_WENT] == WONTABELI_RUNNING)
-        printf("running, %lu readings, keys written %d time\n", word(place + WONTABELI_PLACE_USED), chip.keys);
+        printf("running, %lu readings, %d keys written\n", readings, chip.keys);
     else
-        printf("stopped by %u at step %u, %lu readings\n", place[WONTABELI_PLACE_NUMBER], place[WONTABELI_PLACE_NAMED], word(place + WONTABELI_PLACE_USED));
+        printf("stopped by %u at step %u, %lu readings\n", place[WONTABELI_PLACE_NUMBER], place[WONTABELI_PLACE_NAMED], readings);
     return 0;
 }
 
 int main(void)
 {
     static const char *const names[] = {"sysclk", "hclk", "pclk1", "pclk2", "pclk1_tim", "pclk2_tim", "adc"};
-    uint8_t out[WONTABELI_CHECK_SIZE];
-    uint8_t number = wontabeli_check(profile, sizeof profile, out, sizeof out);
+    uint32_t clocks[WONTABELI_CHECK_WORDS];
+    uint8_t number = wontabeli_check(profile, sizeof profile, clocks, WONTABELI_CHECK_WORDS);
     int i;
     if (number != 0) {
         printf("refused %u\n", number);
         return 1;
     }
-    for (i = 0; i < 7; i++) printf("%s %lu\n", names[i], word(out + 4 * i));
-    printf("nine bytes: refused %u\n", wontabeli_check(profile, 9, out, sizeof out));
+    for (i = 0; i < WONTABELI_CHECK_WORDS; i++) printf("%s %lu\n", names[i], (unsigned long)clocks[i]);
+    printf("nine bytes: refused %u\n", wontabeli_check(profile, 9, clocks, WONTABELI_CHECK_WORDS));
     return start(1) | start(0);
 }

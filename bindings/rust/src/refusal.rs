@@ -1,5 +1,6 @@
-// The refusal numbers and their text. Made by include/numbers from crates/answer/src/lib.rt.
+// Made by include/numbers; change the crates and run it again.
 
+/// Why a call is refused.
 #[derive(Clone, Copy, Debug, PartialEq, Eq)]
 #[repr(u8)]
 pub enum Refusal {

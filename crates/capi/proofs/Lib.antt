@@ -1,4 +1,0 @@
-pub mod Giving
-pub mod Places
-pub mod Storing
-pub mod Taken

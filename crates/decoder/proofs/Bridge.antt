@@ -1,8 +1,8 @@
 -- An accepted configuration's codes, laid into any fields in width, decode to the clocks that the check promised.
 -- Assumes nothing.
-use mathlib.Core.Path.{_≡_, _∙_, refl, sym, ap, subst}
-use mathlib.Core.Bool.{Bool, true, false, cond, not, _&&_, _||_}
-use Prim.Native.Nat.{ℕ, _+_, _/_, _≤_}
+use mathlib.Core.Path.{_≡_, _∙_, refl, sym, ap}
+use mathlib.Core.Bool.{Bool, true, false, not, _&&_, _||_}
+use Prim.Native.Nat.{ℕ, _+_, _/_}
 use native.Mathlib.Omega.{arith}
 use borrow.Author.Tests.{eq-eqb, eqb-true, eqb-false, leb-true, not-false}
 use lib.Dec.{eqb, leb, ltb}
@@ -10,8 +10,6 @@ use Rattle.answer.specs.Answer.{Answer, gives, refuses, refuse, _>>=_, _>>_, bo
 use Rattle.divider.specs.Facts.{neither}
 use Rattle.tree.specs.declared.Clocks.{Clocks}
 use Rattle.image.specs.declared.Fields.{Fields}
-use Rattle.image.specs.declared.Cfgr2.{Cfgr2}
-use Rattle.image.specs.Image.{inWidth}
 use Rattle.v4x7_rules.specs.Rules.{hseOf, mainPllOf, ethPllOf, referenceCodeOf, sysPllOf, busesOf}
 use Rattle.v4x7.specs.declared.Hse.{Hse}
 use Rattle.v4x7.specs.declared.Hse.the-variants as hse

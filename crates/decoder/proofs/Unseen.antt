@@ -1,17 +1,16 @@
 -- What the decoder doesn't look at: enable and ready bits, and HSE where it is not used.
 -- Assumes nothing.
-use mathlib.Core.Path.{_≡_, refl, ap}
-use mathlib.Core.Bool.{Bool, true, false, cond, not, _||_}
+use mathlib.Core.Path.{_≡_, refl}
+use mathlib.Core.Bool.{Bool, true, false, cond, _||_}
 use Prim.Native.Nat.{ℕ}
 use lib.Dec.{eqb}
-use Rattle.answer.specs.Answer.{Answer, gives, refuse, _>>=_, _>>_}
 use Rattle.divider.specs.Facts.{neither}
 use Rattle.image.specs.declared.Ctlr.{Ctlr}
 use Rattle.image.specs.declared.Cfgr2.{Cfgr2}
 use Rattle.image.specs.declared.Fields.{Fields}
 use Rattle.image.specs.Image.{inWidths}
 use Rattle.v4x7_rules.specs.declared.HseFrequency.{HseFrequency}
-use Rattle.v4x7_rules.specs.Rules.{mainPllOf, sysPllOf}
+use Rattle.v4x7_rules.specs.Rules.{mainPllOf}
 use Rattle.decoder.specs.Decode.{usbHsReferenceOf, usbHsPllOf, selectedOf, inUseOf, decodeOf}
 use Rattle.decoder.proofs.Cases.{by, never}
 

@@ -1,6 +1,6 @@
 -- The V4x7 decoder of document 01, "V4x7 decoder": from register fields and HSE to the six clocks. Enable and ready bits are not looked at.
 -- Assumes nothing.
-use mathlib.Core.Bool.{Bool, true, false, cond, not, _||_}
+use mathlib.Core.Bool.{Bool, cond, not, _||_}
 use Prim.Native.Nat.{ℕ, _+_, _/_}
 use lib.Dec.{eqb}
 use Rattle.answer.specs.Answer.{Answer, gives, refuses, refuse, _>>=_, _>>_}

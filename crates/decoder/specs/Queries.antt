@@ -1,7 +1,7 @@
 -- The ADC and RNG queries of document 01, "V4x7 decoder": a frequency, or "not ready". Each code too wide: 28 before anything else.
 -- Assumes nothing.
 use mathlib.Core.Path.{_≡_, refl}
-use mathlib.Core.Bool.{Bool, true, false, cond, not, _&&_}
+use mathlib.Core.Bool.{Bool, cond, not, _&&_}
 use Prim.Native.Nat.{ℕ, _+_, _/_}
 use lib.Dec.{leb}
 use Rattle.answer.specs.Answer.{Answer, gives, refuses, refuse, _>>=_, _>>_, settled-by}

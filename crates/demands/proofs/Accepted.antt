@@ -1,12 +1,12 @@
 -- What the check tells of a configuration that it accepts.
 -- Assumes nothing.
-use Prim.Native.Nat.{ℕ, _-_, _/_, _+_, _≤_, _<_}
-use mathlib.Core.Path.{_≡_, refl}
+use Prim.Native.Nat.{ℕ, _-_, _<_}
+use mathlib.Core.Path.{_≡_}
 use mathlib.Core.Bool.{Bool, true, false, not, _||_}
 use native.Mathlib.Omega.{arith}
 use borrow.Author.Tests.{not-false, ltb-false}
 use lib.Dec.{ltb}
-use Rattle.answer.specs.Answer.{Answer, gives, refuses, refuse, _>>=_, _>>_, bound, followed, passed}
+use Rattle.answer.specs.Answer.{Answer, gives, refuse, _>>=_, _>>_, bound, followed, passed}
 use Rattle.tree.specs.declared.Clocks.{Clocks}
 use Rattle.v4x7_rules.specs.Rules.{busesOf, adcFromUsbHsOf}
 use Rattle.v4x7.specs.declared.HsPll.{HsPll}

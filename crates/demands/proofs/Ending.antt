@@ -1,14 +1,14 @@
 -- An accepted configuration's steps leave fields that hold what it asks for, so that they decode to the promised clocks.
 -- Assumes nothing.
-use Prim.Native.Nat.{ℕ}
-use mathlib.Core.Path.{_≡_, refl, sym, ap, _∙_, subst}
+use Prim.Native.Nat.{ℕ, _+_}
+use mathlib.Core.Path.{_≡_, refl, sym, ap, _∙_}
 use mathlib.Core.Bool.{Bool, true, false, cond, not, _&&_}
-use mathlib.Core.List.{List, [], _∷_}
+use mathlib.Core.List.{List}
 use native.Mathlib.Omega.{arith}
 use borrow.Author.Tests.{eq-eqb, eqb-true}
 use lib.Dec.{eqb}
 use lib.ListN.{take}
-use Rattle.answer.specs.Answer.{Answer, gives, refuses, refuse, _>>=_, _>>_, bound, followed, passed}
+use Rattle.answer.specs.Answer.{Answer, gives, refuse, _>>_, bound, followed, passed}
 use Rattle.tree.specs.declared.Clocks.{Clocks}
 use Rattle.v4x7_rules.specs.Rules.{referenceCodeOf}
 use Rattle.v4x7.specs.declared.Hse.{Hse}
@@ -21,22 +21,30 @@ use Rattle.v4x7.specs.declared.AdcClockSource.{AdcClockSource}
 use Rattle.v4x7.specs.declared.AdcClockSource.the-variants as adc
 use Rattle.v4x7.specs.declared.Config.{Config}
 use Rattle.v4x7.specs.Check.{checkOf, neededOf, referenceOf, usbHsOf}
-use Rattle.image.specs.declared.Seen.{Seen}
 use Rattle.image.specs.declared.Fields.{Fields}
 use Rattle.decoder.specs.Decode.{decodeOf}
 use Rattle.decoder.specs.Laid.{frequencyOf, PllLaid, HsPllLaid, Laid}
 use Rattle.decoder.proofs.Bridge.{laid-decodes}
-use Rattle.steps.specs.Writes.{withSeen, switch, gate, usbHsSource, usbHsOn, mainSource, mainOn, sysPll, buses, fromUsbHs, adcDivisor, hseHz, reference, orZero, codeOf}
-use Rattle.steps.specs.Steps.{Entry, hasUsbHs, hasMain, steps, sameClocks, isClocks, agreesOf}
+use Rattle.steps.specs.Writes.{withSeen, switch, gate, allOff, bypass, hseOn, ethOn, usbHsSource}
+use Rattle.steps.specs.Writes.{usbHsOn, mainSource, mainOn, fromUsbHs, adcDivisor, hseHz, reference, orZero, codeOf}
+use Rattle.steps.specs.Steps.{Entry, hasHse, hasUsbHs, hasMain, steps, sameClocks, isClocks, agreesOf}
 use Rattle.startup.specs.declared.Reading.{Reading}
-use Rattle.startup.specs.Call.{seenOf}
+use Rattle.startup.specs.Call.{seenOf, maskOf}
 use Rattle.demands.specs.Runs.{written}
+use Rattle.demands.specs.Third.{enableBits}
 use Rattle.demands.proofs.Walk.{Always}
+use Rattle.demands.proofs.Fair.{Tame}
 use Rattle.demands.proofs.Held.{always, tame-take, written-kept}
 use Rattle.demands.proofs.Accepted.{Accepted, accepted-tells}
-use Rattle.demands.proofs.Width.{Wide, wide, in-width, see, tame}
+use Rattle.demands.proofs.Width.{Wide, in-width, see, tame}
 
--- Steps 13 and 14, and 16 and 17, taken or skipped.
+-- Steps 8 and 9, 11, 13 and 14, 16 and 17, taken or skipped.
+abbrev hseOut : Hse → Fields → Fields
+hseOut h f =
+    let on = hasHse h in
+    let g = cond on (bypass h f) f in
+    cond on (hseOn g) g
+
 abbrev usbHsOut : Hse → HsPll → Fields → Fields
 usbHsOut h p f =
     let on = hasUsbHs p in
@@ -48,6 +56,28 @@ mainOut source p f =
     let on = hasMain p in
     let g = cond on (mainSource source p f) f in
     cond on (mainOn g) g
+
+-- The parts that these turn on, after step 6, are those of the enable bits.
+turned-on : (h : Hse) (eth : Bool) (u : HsPll) (source : ℕ) (p : Pll) (f : Fields) →
+    let g = hseOut h (allOff f) in
+    enableBits (mainOut source p (usbHsOut h u (cond eth (ethOn g) g)) .ctlr) ≡
+    cond (hasHse h) 8 0 + cond eth 4 0 + cond (hasUsbHs u) 2 0 + cond (hasMain p) 1 0
+turned-on hse.Absent false hspll.Absent source pll.Absent f = refl
+turned-on hse.Absent false hspll.Absent source (pll.Mul m) f = refl
+turned-on hse.Absent false (hspll.From s) source pll.Absent f = refl
+turned-on hse.Absent false (hspll.From s) source (pll.Mul m) f = refl
+turned-on hse.Absent true hspll.Absent source pll.Absent f = refl
+turned-on hse.Absent true hspll.Absent source (pll.Mul m) f = refl
+turned-on hse.Absent true (hspll.From s) source pll.Absent f = refl
+turned-on hse.Absent true (hspll.From s) source (pll.Mul m) f = refl
+turned-on (hse.Present b hz) false hspll.Absent source pll.Absent f = refl
+turned-on (hse.Present b hz) false hspll.Absent source (pll.Mul m) f = refl
+turned-on (hse.Present b hz) false (hspll.From s) source pll.Absent f = refl
+turned-on (hse.Present b hz) false (hspll.From s) source (pll.Mul m) f = refl
+turned-on (hse.Present b hz) true hspll.Absent source pll.Absent f = refl
+turned-on (hse.Present b hz) true hspll.Absent source (pll.Mul m) f = refl
+turned-on (hse.Present b hz) true (hspll.From s) source pll.Absent f = refl
+turned-on (hse.Present b hz) true (hspll.From s) source (pll.Mul m) f = refl
 
 -- The main PLL's fields, where it is configured, are as step 16 wrote them; step 16 keeps CFGR2.
 main-laid : (source : ℕ) (p : Pll) (f g : Fields) → g .cfgr0 .pllsrc ≡ mainOut source p f .cfgr0 .pllsrc →
@@ -82,10 +112,11 @@ usbhs-laid c hspll.Absent f g a b q = tt
 usbhs-laid c (hspll.From s) f g a b q =
     let r = bound (referenceOf (c .hse) (c .ethpll) s) (λ hz. _>>_ (referenceCodeOf hz) (gives tt)) q in
     let k = followed (referenceCodeOf (r .value)) (gives tt) (r .after) in
-    let code : codeOf (c .hse) s ≡ k .value = ap (λ (hz : ℕ). orZero (referenceCodeOf hz)) (reference-is (c .hse) (c .ethpll) s (r .gave)) ∙ ap orZero (k .gave) in (
+    let found = reference-is (c .hse) (c .ethpll) s (r .gave) in
+    let code : codeOf (c .hse) s ≡ k .value = ap (λ (hz : ℕ). orZero (referenceCodeOf hz)) found ∙ ap orZero (k .gave) in (
       a,
       λ hz e.
-          let is : hz ≡ r .value = sym (reference-is (c .hse) (c .ethpll) s e) ∙ reference-is (c .hse) (c .ethpll) s (r .gave) in
+          let is : hz ≡ r .value = sym (reference-is (c .hse) (c .ethpll) s e) ∙ found in
           ap referenceCodeOf is ∙ k .gave ∙ ap gives (sym (b ∙ code)),
     )
 
@@ -94,7 +125,8 @@ cond-keeps : {A : Type 0} (F : Fields → A) (w : Fields → Fields) → ((f : F
 cond-keeps F w h true f = h f
 cond-keeps F w h false f = refl
 
-adc-keeps : {A : Type 0} (F : Fields → A) → ((f : Fields) (n : ℕ) → F (adcDivisor (adc.UsbHsPll n) f) ≡ F f) → (a : AdcClockSource) (f : Fields) → F (adcDivisor a f) ≡ F f
+adc-keeps : {A : Type 0} (F : Fields → A) → ((f : Fields) (n : ℕ) → F (adcDivisor (adc.UsbHsPll n) f) ≡ F f) →
+    (a : AdcClockSource) (f : Fields) → F (adcDivisor a f) ≡ F f
 adc-keeps F h adc.Hclk f = refl
 adc-keeps F h (adc.UsbHsPll d) f = h f d
 
@@ -104,6 +136,9 @@ module _ (c : Config) {x : Clocks × ℕ} (q : checkOf c ≡ gives x) (earlier :
 
   abbrev front : List Entry
   front = take 26 (steps c (x .0))
+
+  abbrev tamed : Tame Wide front
+  tamed = tame-take Wide 26 (steps c (x .0)) (tame c ok (x .0))
 
   abbrev last : Fields
   last = written front earlier
@@ -120,13 +155,18 @@ module _ (c : Config) {x : Clocks × ℕ} (q : checkOf c ≡ gives x) (earlier :
       s (cond on (gate true with-adc) with-adc) ∙ cond-keeps F (gate true) g on with-adc ∙
       cond-keeps F (adcDivisor (c .«adc_src»)) (adc-keeps F d (c .«adc_src»)) (fromUsbHs (c .«adc_src»)) mid
 
+  pub enables : enableBits (written (steps c (x .0)) earlier .ctlr) ≡ maskOf c
+  enables =
+      ap enableBits (keeps (λ f. f .ctlr) (λ f. refl) (λ f. refl) (λ f n. refl)) ∙
+      turned-on (c .hse) (c .ethpll) (c .hspll) (c .«pll_src») (c .pll) (written (take 5 (steps c (x .0))) earlier)
+
   laid : (r : Reading) → eqb (seenOf r .sws) (c .sys) ≡ true → Laid c (withSeen last (seenOf r))
   laid r e =
       let before = written (take 15 (steps c (x .0))) earlier in
       let twelve = written (take 12 (steps c (x .0))) earlier in
       let two = main-keeps (c .«pll_src») (c .pll) before in
       record {
-        width = in-width (withSeen last (seenOf r)) (see last r (written-kept Wide front (tame-take Wide 26 (steps c (x .0)) (tame c ok (x .0))) earlier width));
+        width = in-width (withSeen last (seenOf r)) (see last r (written-kept Wide front tamed earlier width));
         sws = eqb-true (seenOf r .sws) (c .sys) e;
         hpre = keeps (λ f. f .cfgr0 .hpre) (λ f. refl) (λ f. refl) (λ f n. refl);
         ppre1 = keeps (λ f. f .cfgr0 .ppre1) (λ f. refl) (λ f. refl) (λ f n. refl);
@@ -135,7 +175,8 @@ module _ (c : Config) {x : Clocks × ℕ} (q : checkOf c ≡ gives x) (earlier :
         sysplldiv = keeps (λ f. f .cfgr2 .sysplldiv) (λ f. refl) (λ f. refl) (λ f n. refl);
         main =
             main-laid (c .«pll_src») (c .pll) before (withSeen last (seenOf r))
-            (keeps (λ f. f .cfgr0 .pllsrc) (λ f. refl) (λ f. refl) (λ f n. refl)) (keeps (λ f. f .cfgr0 .pllmul) (λ f. refl) (λ f. refl) (λ f n. refl));
+            (keeps (λ f. f .cfgr0 .pllsrc) (λ f. refl) (λ f. refl) (λ f n. refl))
+            (keeps (λ f. f .cfgr0 .pllmul) (λ f. refl) (λ f. refl) (λ f n. refl));
         usbhs =
             usbhs-laid c (c .hspll) twelve (withSeen last (seenOf r))
             (keeps (λ f. f .cfgr2 .usbhspllsrc) (λ f. refl) (λ f. refl) (λ f n. refl) ∙ ap (λ r. r .usbhspllsrc) two)
@@ -166,5 +207,5 @@ module _ (c : Config) {x : Clocks × ℕ} (q : checkOf c ≡ gives x) (earlier :
 
   pub ending : Always Ends 1 (steps c (x .0)) earlier
   ending =
-      always Wide Ends (λ s. eqb (s .sws) (c .sys)) (agreesOf c (x .0)) front (tame-take Wide 26 (steps c (x .0)) (tame c ok (x .0))) tt 1 earlier
+      always Wide Ends (λ s. eqb (s .sws) (c .sys)) (agreesOf c (x .0)) front tamed tt 1 earlier
       (λ r e. (agrees r e, (refl, refl, decodes r e)))

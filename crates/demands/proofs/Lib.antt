@@ -1,3 +1,5 @@
+pub mod First
+pub mod Second
 pub mod Machine
 pub mod Waits
 pub mod Walk
@@ -9,3 +11,4 @@ pub mod Width
 pub mod Ending
 pub mod Third
 pub mod Reached
+pub mod Caught

@@ -6,15 +6,12 @@ use mathlib.Core.Bool.{Bool, true, false, cond}
 use mathlib.Core.List.{List, [], _∷_}
 use native.Mathlib.Nat.{zero-add, suc-add}
 use native.Mathlib.Omega.{arith}
-use lib.Dec.{eqb}
 use lib.ListN.{drop}
 use lib.Seq.{drop-drop}
 use borrow.Author.Tests.{le-ltb, lt-leb, lt-ltb}
-use Rattle.image.specs.declared.Seen.{Seen}
 use Rattle.image.specs.declared.Fields.{Fields}
 use Rattle.v4x7.specs.declared.Config.{Config}
-use Rattle.steps.specs.Writes.{withSeen}
-use Rattle.steps.specs.Steps.{Op, write, wait, flash, compare, Entry, entry, from}
+use Rattle.steps.specs.Steps.{Op, Entry, entry, from}
 use Rattle.startup.specs.declared.Reading.{Reading}
 use Rattle.startup.specs.declared.Report.{Report}
 use Rattle.startup.specs.declared.Report.the-variants.{Failed}
@@ -22,7 +19,7 @@ use Rattle.startup.specs.declared.Phase.{Phase}
 use Rattle.startup.specs.declared.Phase.the-variants.{Going, Over}
 use Rattle.startup.specs.declared.Startup.{Startup}
 use Rattle.startup.specs.declared.Stepped.{Stepped}
-use Rattle.startup.specs.Call.{seenOf, modeRead, going, ended, handedBack, skipped, moved, unmetOf, waitedOf, readBackOf, workedOf, callIn}
+use Rattle.startup.specs.Call.{going, ended, handedBack, skipped, moved, unmetOf, waitedOf, readBackOf, workedOf, callIn}
 use Rattle.demands.specs.Runs.{Readings, later, after, Call, run}
 
 abbrev pub inPhase : List Entry → ℕ → Startup → Reading → Phase → Stepped

@@ -1,11 +1,12 @@
 -- The bound is reached: a configuration with every part, and the slowest readings.
 -- Assumes nothing.
-use Prim.Native.Nat.{ℕ, zero, suc, _+_, _*_, _≤_}
-use mathlib.Core.Path.{_≡_, refl, sym, ap, _∙_}
-use mathlib.Core.Bool.{Bool, true, false}
-use mathlib.Core.List.{List, [], _∷_}
+use Prim.Native.Nat.{ℕ, suc}
+use mathlib.Core.Path.{_≡_, refl, ap, _∙_}
+use mathlib.Core.Bool.{true, false}
+use mathlib.Core.List.{List}
 use lib.Count.{ones, onesIn}
-use Rattle.answer.specs.Answer.{Answer, gives}
+use lib.ListN.{drop}
+use Rattle.answer.specs.Answer.{gives}
 use Rattle.divider.specs.Divide.{ahbOf, ahbDivisor, ahbDivisors, apbOf, apbDivisor, byAhbOf, byApbOf}
 use Rattle.tree.specs.declared.Clocks.{Clocks}
 use Rattle.tree.specs.Tree.{clocksOf, belowOf, busOf, timerClock}
@@ -15,23 +16,23 @@ use Rattle.v4x7.specs.declared.Pll.the-variants as pll
 use Rattle.v4x7.specs.declared.HsPll.the-variants as hspll
 use Rattle.v4x7.specs.declared.AdcClockSource.the-variants as adc
 use Rattle.v4x7.specs.declared.Config.{Config}
-use Rattle.v4x7.specs.Check.{checkOf, named, sourcesOf, rngOf, hsePresentOf, mainOf, ethOf, usbHsOf, referenceOf, sysclkOf, inputOf, adcRatioOf, limitsOf, adcOf}
+use Rattle.v4x7.specs.Check.{checkOf, named, sourcesOf, rngOf, hsePresentOf, mainOf, ethOf}
+use Rattle.v4x7.specs.Check.{usbHsOf, referenceOf, sysclkOf, inputOf, adcRatioOf, limitsOf, adcOf}
 use Rattle.image.specs.declared.Fields.{Fields}
 use Rattle.image.specs.Image.{inWidth, inWidths}
 use Rattle.steps.specs.Steps.{Entry, steps}
 use Rattle.startup.specs.declared.Reading.{Reading}
 use Rattle.startup.specs.declared.Phase.the-variants.{Going}
 use Rattle.startup.specs.declared.Startup.{Startup}
-use Rattle.startup.specs.Call.{maskOf}
 use Rattle.demands.specs.Runs.{Readings, run, mostCalls}
 use Rattle.demands.specs.Third.{begun, bound, Reached}
 use Rattle.demands.proofs.Machine.{machine}
 use Rattle.demands.proofs.Slow.{Slow, slowest, slow}
 use Rattle.demands.proofs.Width.{wide}
-use Rattle.demands.proofs.Third.{same-run, readings-bound}
+use Rattle.demands.proofs.Third.{same-run, bounds}
 
--- HSE at 25 MHz times 8 as the system clock, ETH PLL, USBHS PLL from HSI, the ADC from it.
-abbrev busiest : Config
+-- HSE at 25 MHz times 8 as the system clock, AHB divided by 2, ETH PLL, USBHS PLL from HSI, the ADC from it.
+abbrev pub busiest : Config
 busiest =
     record {
       hse = hse.Present false 25000000;
@@ -42,7 +43,7 @@ busiest =
       «syspll_pre» = 0;
       hspll = hspll.From 1;
       ethpll = true;
-      «ahb_pre» = 0;
+      «ahb_pre» = 8;
       «apb1_pre» = 0;
       «apb2_pre» = 0;
       «rng_src» = 0;
@@ -51,16 +52,18 @@ busiest =
       «adc_duty» = 1;
     }
 
-abbrev promised : Clocks
+abbrev pub promised : Clocks
 promised =
-    record { sysclk = 200000000; hclk = 200000000; pclk1 = 200000000; pclk2 = 200000000; «pclk1_tim» = 200000000; «pclk2_tim» = 200000000 }
+    record { sysclk = 200000000; hclk = 100000000; pclk1 = 100000000; pclk2 = 100000000; «pclk1_tim» = 100000000; «pclk2_tim» = 100000000 }
 
-accepted : checkOf busiest ≡ gives (promised, 7500000)
-unfolding checkOf named sourcesOf rngOf hsePresentOf hseOf mainOf mainPllOf ethOf ethPllOf usbHsOf referenceOf referenceCodeOf sysclkOf inputOf sysPllOf busesOf clocksOf belowOf busOf timerClock adcOf adcRatioOf limitsOf adcFromHclkOf adcFromUsbHsOf totalOf ahbOf ahbDivisor ahbDivisors apbOf apbDivisor byAhbOf byApbOf
+pub accepted : checkOf busiest ≡ gives (promised, 7500000)
+unfolding checkOf named sourcesOf rngOf hsePresentOf hseOf mainOf mainPllOf ethOf ethPllOf usbHsOf referenceOf referenceCodeOf sysclkOf inputOf
+    sysPllOf busesOf clocksOf belowOf busOf timerClock adcOf adcRatioOf limitsOf adcFromHclkOf adcFromUsbHsOf totalOf ahbOf ahbDivisor
+    ahbDivisors apbOf apbDivisor byAhbOf byApbOf
 accepted = refl
 
 -- All fields clear.
-abbrev clear : Fields
+abbrev pub clear : Fields
 clear =
     record {
       ctlr = record { hsion = false; hsebyp = false; hseon = false; csson = false; pllon = false; «usbhs_pllon» = false; «eth_pllon» = false };
@@ -71,69 +74,29 @@ clear =
       flash = record { sckmod = 0; lock = false; flock = false };
     }
 
-clear-width : inWidth clear ≡ true
+pub clear-width : inWidth clear ≡ true
 unfolding inWidths
 clear-width = refl
 
--- A reading with nothing ready, and one with all ready and SYSPLL in use; SCKMOD 1 for 200 MHz.
+-- A reading with nothing ready, and one with all ready and SYSPLL in use; SCKMOD 0 for 100 MHz.
 abbrev dark : Reading
-dark = record { seen = record { hsirdy = false; hserdy = false; pllrdy = false; «usbhs_pllrdy» = false; «eth_pllrdy» = false; sws = 0 }; sckmod = 1 }
+dark = record { seen = record { hsirdy = false; hserdy = false; pllrdy = false; «usbhs_pllrdy» = false; «eth_pllrdy» = false; sws = 0 }; sckmod = 0 }
 
 abbrev bright : Reading
-bright = record { seen = record { hsirdy = true; hserdy = true; pllrdy = true; «usbhs_pllrdy» = true; «eth_pllrdy» = true; sws = 2 }; sckmod = 1 }
+bright = record { seen = record { hsirdy = true; hserdy = true; pllrdy = true; «usbhs_pllrdy» = true; «eth_pllrdy» = true; sws = 2 }; sckmod = 0 }
 
-abbrev P : List Entry
+abbrev pub P : List Entry
 P = steps busiest promised
 
--- 2, 4, 7, 10, 12, 15, 18, 21, 27, 28
+-- The readings of 2, 4 and 7; of 10, 12, 15 and 18; of 21 and 27.
 readings : Slow P
-readings = (
-  dark,
-  bright,
-  refl,
-  refl,
-  (
-    bright,
-    dark,
-    refl,
-    refl,
-    (
-      bright,
-      dark,
-      refl,
-      refl,
-      (
-        dark,
-        bright,
-        refl,
-        refl,
-        (
-          dark,
-          bright,
-          refl,
-          refl,
-          (
-            dark,
-            bright,
-            refl,
-            refl,
-            (
-              dark,
-              bright,
-              refl,
-              refl,
-              (
-                dark,
-                refl,
-                (dark, bright, refl, refl, refl),
-              ),
-            ),
-          ),
-        ),
-      ),
-    ),
-  ),
-)
+readings =
+    let last : Slow (drop 20 P) = (dark, refl, (dark, bright, refl, refl, refl)) in
+    let main : Slow (drop 15 P) = (dark, bright, refl, refl, last) in
+    let usbhs : Slow (drop 12 P) = (dark, bright, refl, refl, main) in
+    let eth : Slow (drop 10 P) = (dark, bright, refl, refl, usbhs) in
+    let on : Slow (drop 7 P) = (dark, bright, refl, refl, eth) in
+    (dark, bright, refl, refl, (bright, dark, refl, refl, (bright, dark, refl, refl, on)))
 
 most : mostCalls 1000000 P ≡ bound busiest
 unfolding ones onesIn
@@ -154,5 +117,5 @@ reaches rd n e g = (
 
 pub reached : Reached
 reached =
-    let x = slow 999999 dark busiest P P 1 0 clear readings refl (readings-bound busiest promised) in
+    let x = slow 999999 dark busiest P P 1 0 clear readings refl (bounds busiest promised .1) in
     reaches (slowest 999999 dark P readings) (x .0) (x .1) (x .2)

@@ -4,7 +4,7 @@ use mathlib.Core.List.{List, [], _∷_}
 use Prim.Native.Nat.{ℕ, _/_, _%_}
 use lib.Dec.{leb}
 use lib.ListN.{getD}
-use Rattle.answer.specs.Answer.{Answer, gives, refuses, refuse, _>>=_, _>>_}
+use Rattle.answer.specs.Answer.{Answer, gives, refuse, _>>=_, _>>_}
 use Rattle.divider.specs.declared.Family.{Family}
 use Rattle.divider.specs.declared.Family.the-variants.{V4x7, V1, V30x, H4}
 

@@ -1,7 +1,7 @@
 -- Laws of the divisors, shown once over family and code. Callers use them in place of the tables.
 -- Assumes nothing.
-use mathlib.Core.Path.{_≡_, refl, subst}
-use mathlib.Core.Bool.{Bool, true, false}
+use mathlib.Core.Path.{_≡_, subst}
+use mathlib.Core.Bool.{Bool, false}
 use mathlib.Core.List.{List, [], _∷_}
 use Prim.Native.Nat.{ℕ, _<_, _≤_, _*_, _/_, _%_, _^_}
 use native.Mathlib.Omega.{arith}

@@ -6,7 +6,7 @@ use mathlib.Core.Bool.{Bool, not}
 use mathlib.Core.List.{List, [], _∷_}
 use lib.ListN.{length, getD}
 use lib.Dec.{eqb, ltb}
-use Rattle.answer.specs.Answer.{Answer, gives, refuses, refuse, _>>=_, _>>_, settled-by}
+use Rattle.answer.specs.Answer.{Answer, gives, refuses, refuse, _>>_, settled-by}
 use Rattle.layout.specs.Layout.{packed}
 use Rattle.layout.specs.Bits.{cut, bit}
 use Rattle.answer.specs.Tests.{every}

@@ -76,7 +76,7 @@ pub enum ReadImage {
 }
 
 // The fields' widths, in order, and the filling's.
-const WIDTHS: [u8; 34] = [
+pub const WIDTHS: [u8; 34] = [
     1, // HSION
     1, // HSEBYP
     1, // HSEON

@@ -1,7 +1,8 @@
--- Rows A1 to A11 of document 01, from ten profile bytes each, of the definitions of the reader and the check: one list and one statement.
+-- Rows A1 to A11 of document 01, of the definitions of the reader and the check: one list and one statement. A row is ten profile bytes, the
+-- configuration that they are, and what the check says of it.
 -- Assumes nothing.
 use mathlib.Core.Path.{_≡_, refl}
-use mathlib.Core.Bool.{false}
+use mathlib.Core.Bool.{Bool, true, false}
 use mathlib.Core.List.{List, [], _∷_, map}
 use Prim.Native.Nat.{ℕ}
 use Rattle.answer.specs.Answer.{Answer, gives, refuses, _>>=_}
@@ -9,120 +10,170 @@ use Rattle.divider.specs.Divide.{ahbOf, ahbDivisor, ahbDivisors, apbOf, apbDivi
 use Rattle.tree.specs.declared.Clocks.{Clocks}
 use Rattle.tree.specs.Tree.{clocksOf, belowOf, busOf, timerClock}
 use Rattle.v4x7_rules.specs.Rules.{hseOf, mainPllOf, ethPllOf, referenceCodeOf, sysPllOf, busesOf, totalOf, adcFromHclkOf, adcFromUsbHsOf}
+use Rattle.v4x7.specs.declared.Hse.{Hse}
 use Rattle.v4x7.specs.declared.Hse.the-variants as hse
+use Rattle.v4x7.specs.declared.Pll.{Pll}
 use Rattle.v4x7.specs.declared.Pll.the-variants as pll
+use Rattle.v4x7.specs.declared.HsPll.{HsPll}
 use Rattle.v4x7.specs.declared.HsPll.the-variants as hspll
+use Rattle.v4x7.specs.declared.AdcClockSource.{AdcClockSource}
 use Rattle.v4x7.specs.declared.AdcClockSource.the-variants as source
 use Rattle.v4x7.specs.declared.Config.{Config}
-use Rattle.v4x7.specs.Check.{checkOf, named, sourcesOf, rngOf, hsePresentOf, mainOf, ethOf, usbHsOf, referenceOf, sysclkOf, inputOf, adcRatioOf, limitsOf, adcOf}
+use Rattle.v4x7.specs.Check.{checkOf, named, sourcesOf, rngOf, hsePresentOf, mainOf, ethOf}
+use Rattle.v4x7.specs.Check.{usbHsOf, referenceOf, sysclkOf, inputOf, adcRatioOf, limitsOf, adcOf}
 use Rattle.layout.specs.Bits.{bitsAt}
 use Rattle.profile.specs.Profile.{readProfile, tests, rawOf, hseFields, pllFields, busFields, adcFields, configOf}
 
--- what a row asks of the check's answer
+-- The parts of a configuration that rows name: HSE, main PLL with its source, system clock, SYSPLL source with its divisor less one, USBHS PLL,
+-- ETH PLL, AHB, APB2, ADC source, ADC prescaler; all by their codes.
+abbrev Parts : Type 0
+Parts = Hse × (ℕ × Pll) × ℕ × (ℕ × ℕ) × HsPll × Bool × ℕ × ℕ × AdcClockSource × ℕ
+
+pub config : Parts → Config
+config (h, (from, p), sys, (syspll, pre), usbhs, eth, ahb, apb2, src, by) = record {
+  hse = h;
+  sys = sys;
+  «pll_src» = from;
+  pll = p;
+  «syspll_src» = syspll;
+  «syspll_pre» = pre;
+  hspll = usbhs;
+  ethpll = eth;
+  «ahb_pre» = ahb;
+  «apb1_pre» = 0;
+  «apb2_pre» = apb2;
+  «rng_src» = 0;
+  «adc_src» = src;
+  «adc_pre» = by;
+  «adc_duty» = 1;
+}
+
+-- The source's default: HSI, no PLL, SYSPLL from the main PLL, nothing divided but the ADC's clock by 8.
+pub default : Parts
+default = (hse.Absent, (0, pll.Absent), 0, (6, 0), hspll.Absent, false, 0, 0, source.Hclk, 3)
+
+-- What a row names, changed.
+
+hseAt : ℕ → Parts → Parts
+hseAt hz (h, m, s, v, u, e, a, b, f, p) = (hse.Present false hz, m, s, v, u, e, a, b, f, p)
+
+mainPll : ℕ → ℕ → Parts → Parts
+mainPll from code (h, m, s, v, u, e, a, b, f, p) = (h, (from, pll.Mul code), s, v, u, e, a, b, f, p)
+
+system : ℕ → Parts → Parts
+system code (h, m, s, v, u, e, a, b, f, p) = (h, m, code, v, u, e, a, b, f, p)
+
+sysPll : ℕ → ℕ → Parts → Parts
+sysPll from less (h, m, s, v, u, e, a, b, f, p) = (h, m, 2, (from, less), u, e, a, b, f, p)
+
+usbHsPll : ℕ → Parts → Parts
+usbHsPll from (h, m, s, v, u, e, a, b, f, p) = (h, m, s, v, hspll.From from, e, a, b, f, p)
+
+ethPll : Parts → Parts
+ethPll (h, m, s, v, u, e, a, b, f, p) = (h, m, s, v, u, true, a, b, f, p)
+
+ahb : ℕ → Parts → Parts
+ahb code (h, m, s, v, u, e, a, b, f, p) = (h, m, s, v, u, e, code, b, f, p)
+
+apb2 : ℕ → Parts → Parts
+apb2 code (h, m, s, v, u, e, a, b, f, p) = (h, m, s, v, u, e, a, code, f, p)
+
+adcFrom : ℕ → Parts → Parts
+adcFrom divisor (h, m, s, v, u, e, a, b, f, p) = (h, m, s, v, u, e, a, b, source.UsbHsPll divisor, p)
+
+adcBy : ℕ → Parts → Parts
+adcBy code (h, m, s, v, u, e, a, b, f, p) = (h, m, s, v, u, e, a, b, f, code)
+
+-- What a row asks of the check's answer.
 abbrev Asks : Type 0
-Asks = Clocks × ℕ → ℕ
+Asks = Clocks × ℕ → List ℕ
 
 sysclk : Asks
-sysclk a = a .0 .sysclk
+sysclk a = a .0 .sysclk ∷ []
 
 hclk : Asks
-hclk a = a .0 .hclk
-
-pclk1 : Asks
-pclk1 a = a .0 .pclk1
-
-pclk2 : Asks
-pclk2 a = a .0 .pclk2
-
-tim1 : Asks
-tim1 a = a .0 .«pclk1_tim»
-
-tim2 : Asks
-tim2 a = a .0 .«pclk2_tim»
+hclk a = a .0 .hclk ∷ []
 
 adc : Asks
-adc a = a .1
+adc a = a .1 ∷ []
+
+-- PCLK2, its timer, ADC
+slow : Asks
+slow a = a .0 .pclk2 ∷ a .0 .«pclk2_tim» ∷ a .1 ∷ []
+
+-- the seven numbers of the program
+seven : Asks
+seven a = a .0 .sysclk ∷ a .0 .hclk ∷ a .0 .pclk1 ∷ a .0 .pclk2 ∷ a .0 .«pclk1_tim» ∷ a .0 .«pclk2_tim» ∷ a .1 ∷ []
 
 pub record Row : Type 0 where
   pub profile : List ℕ
+  pub parts : Parts
   pub asks : Asks
-  pub says : Answer ℕ
+  pub says : Answer (List ℕ)
 
-row : List ℕ → Asks → Answer ℕ → Row
-row bytes question answer = record { profile = bytes; asks = question; says = answer }
+row : List ℕ → Parts → Asks → Answer (List ℕ) → Row
+row bytes what question answer = record { profile = bytes; parts = what; asks = question; says = answer }
 
 pub rows : List Row
 rows =
     -- A1 HPRE 11, 12 at 20 MHz: 1,250,000; 312,500
-    row (0x00 ∷ 0x00 ∷ 0x00 ∷ 0x00 ∷ 0x00 ∷ 0x18 ∷ 0x05 ∷ 0x80 ∷ 0x00 ∷ 0x34 ∷ []) hclk (gives 1250000)
-    ∷ row (0x00 ∷ 0x00 ∷ 0x00 ∷ 0x00 ∷ 0x00 ∷ 0x18 ∷ 0x06 ∷ 0x00 ∷ 0x00 ∷ 0x34 ∷ []) hclk (gives 312500)
+    row (0x00 ∷ 0x00 ∷ 0x00 ∷ 0x00 ∷ 0x00 ∷ 0x18 ∷ 0x05 ∷ 0x80 ∷ 0x00 ∷ 0x34 ∷ [])
+    (ahb 11 default) hclk (gives (1250000 ∷ []))
+    ∷ row (0x00 ∷ 0x00 ∷ 0x00 ∷ 0x00 ∷ 0x00 ∷ 0x18 ∷ 0x06 ∷ 0x00 ∷ 0x00 ∷ 0x34 ∷ [])
+    (ahb 12 default) hclk (gives (312500 ∷ []))
     -- A2 HSE 4,999,999 refused 4; 5,000,000 runs
-    ∷ row (0x80 ∷ 0x13 ∷ 0x12 ∷ 0xCF ∷ 0xC0 ∷ 0x18 ∷ 0x00 ∷ 0x00 ∷ 0x00 ∷ 0x34 ∷ []) hclk (refuses 4)
-    ∷ row (0x80 ∷ 0x13 ∷ 0x12 ∷ 0xD0 ∷ 0x00 ∷ 0x18 ∷ 0x00 ∷ 0x00 ∷ 0x00 ∷ 0x34 ∷ []) hclk (gives 20000000)
+    ∷ row (0x80 ∷ 0x13 ∷ 0x12 ∷ 0xCF ∷ 0xC0 ∷ 0x18 ∷ 0x00 ∷ 0x00 ∷ 0x00 ∷ 0x34 ∷ [])
+    (hseAt 4999999 default) hclk (refuses 4)
+    ∷ row (0x80 ∷ 0x13 ∷ 0x12 ∷ 0xD0 ∷ 0x00 ∷ 0x18 ∷ 0x00 ∷ 0x00 ∷ 0x00 ∷ 0x34 ∷ [])
+    (hseAt 5000000 default) hclk (gives (20000000 ∷ []))
     -- A3 32,000,000 runs; 32,000,001 refused 4
-    ∷ row (0x80 ∷ 0x7A ∷ 0x12 ∷ 0x00 ∷ 0x00 ∷ 0x18 ∷ 0x00 ∷ 0x00 ∷ 0x00 ∷ 0x34 ∷ []) hclk (gives 20000000)
-    ∷ row (0x80 ∷ 0x7A ∷ 0x12 ∷ 0x00 ∷ 0x40 ∷ 0x18 ∷ 0x00 ∷ 0x00 ∷ 0x00 ∷ 0x34 ∷ []) hclk (refuses 4)
+    ∷ row (0x80 ∷ 0x7A ∷ 0x12 ∷ 0x00 ∷ 0x00 ∷ 0x18 ∷ 0x00 ∷ 0x00 ∷ 0x00 ∷ 0x34 ∷ [])
+    (hseAt 32000000 default) hclk (gives (20000000 ∷ []))
+    ∷ row (0x80 ∷ 0x7A ∷ 0x12 ∷ 0x00 ∷ 0x40 ∷ 0x18 ∷ 0x00 ∷ 0x00 ∷ 0x00 ∷ 0x34 ∷ [])
+    (hseAt 32000001 default) hclk (refuses 4)
     -- A4 HSI x 21, system HSI: 5
-    ∷ row (0x00 ∷ 0x00 ∷ 0x00 ∷ 0x00 ∷ 0x06 ∷ 0xB8 ∷ 0x00 ∷ 0x00 ∷ 0x00 ∷ 0x34 ∷ []) hclk (refuses 5)
+    ∷ row (0x00 ∷ 0x00 ∷ 0x00 ∷ 0x00 ∷ 0x06 ∷ 0xB8 ∷ 0x00 ∷ 0x00 ∷ 0x00 ∷ 0x34 ∷ [])
+    (mainPll 0 21 default) hclk (refuses 5)
     -- A5 HSI x 20, divided by 2: HCLK 200,000,000
-    ∷ row (0x00 ∷ 0x00 ∷ 0x00 ∷ 0x00 ∷ 0x26 ∷ 0x98 ∷ 0x80 ∷ 0x00 ∷ 0x00 ∷ 0x34 ∷ []) hclk (gives 200000000)
+    ∷ row (0x00 ∷ 0x00 ∷ 0x00 ∷ 0x00 ∷ 0x26 ∷ 0x98 ∷ 0x80 ∷ 0x00 ∷ 0x00 ∷ 0x34 ∷ [])
+    (mainPll 0 20 (sysPll 6 1 default)) hclk (gives (200000000 ∷ []))
     -- A6 HSE 8,000,001 x 12.5, as system clock: 100,000,012
-    ∷ row (0x80 ∷ 0x1E ∷ 0x84 ∷ 0x80 ∷ 0x6C ∷ 0xB8 ∷ 0x00 ∷ 0x00 ∷ 0x00 ∷ 0x34 ∷ []) sysclk (gives 100000012)
+    ∷ row (0x80 ∷ 0x1E ∷ 0x84 ∷ 0x80 ∷ 0x6C ∷ 0xB8 ∷ 0x00 ∷ 0x00 ∷ 0x00 ∷ 0x34 ∷ [])
+    (hseAt 8000001 (mainPll 1 5 (system 2 default))) sysclk (gives (100000012 ∷ []))
     -- A7 HSE 25 MHz, ETH PLL, system clock two thirds of ETH divided by 2: 166,666,666
-    ∷ row (0x80 ∷ 0x5F ∷ 0x5E ∷ 0x10 ∷ 0x20 ∷ 0x0C ∷ 0x88 ∷ 0x00 ∷ 0x00 ∷ 0x34 ∷ []) sysclk (gives 166666666)
+    ∷ row (0x80 ∷ 0x5F ∷ 0x5E ∷ 0x10 ∷ 0x20 ∷ 0x0C ∷ 0x88 ∷ 0x00 ∷ 0x00 ∷ 0x34 ∷ [])
+    (hseAt 25000000 (ethPll (sysPll 3 1 default))) sysclk (gives (166666666 ∷ []))
     -- A8 HSE 17,777,778 x 13.5, divided by 2, ADC by 4: 120,000,001 > 120,000,000, refused 15
-    ∷ row (0x80 ∷ 0x43 ∷ 0xD1 ∷ 0x1C ∷ 0xAC ∷ 0xF8 ∷ 0x80 ∷ 0x00 ∷ 0x00 ∷ 0x14 ∷ []) adc (refuses 15)
+    ∷ row (0x80 ∷ 0x43 ∷ 0xD1 ∷ 0x1C ∷ 0xAC ∷ 0xF8 ∷ 0x80 ∷ 0x00 ∷ 0x00 ∷ 0x14 ∷ [])
+    (hseAt 17777778 (mainPll 1 7 (sysPll 6 1 (adcBy 1 default)))) adc (refuses 15)
     -- A9 USBHS PLL from HSI, ADC from it, divisor 2, prescaler 8: 30,000,000; divisor 1: 15
-    ∷ row (0x00 ∷ 0x00 ∷ 0x00 ∷ 0x00 ∷ 0x00 ∷ 0x18 ∷ 0x50 ∷ 0x00 ∷ 0x40 ∷ 0xB4 ∷ []) adc (gives 30000000)
-    ∷ row (0x00 ∷ 0x00 ∷ 0x00 ∷ 0x00 ∷ 0x00 ∷ 0x18 ∷ 0x50 ∷ 0x00 ∷ 0x40 ∷ 0x74 ∷ []) adc (refuses 15)
+    ∷ row (0x00 ∷ 0x00 ∷ 0x00 ∷ 0x00 ∷ 0x00 ∷ 0x18 ∷ 0x50 ∷ 0x00 ∷ 0x40 ∷ 0xB4 ∷ [])
+    (usbHsPll 1 (adcFrom 2 (adcBy 3 default))) adc (gives (30000000 ∷ []))
+    ∷ row (0x00 ∷ 0x00 ∷ 0x00 ∷ 0x00 ∷ 0x00 ∷ 0x18 ∷ 0x50 ∷ 0x00 ∷ 0x40 ∷ 0x74 ∷ [])
+    (usbHsPll 1 (adcFrom 1 (adcBy 3 default))) adc (refuses 15)
     -- A10 HSE 5 MHz as system clock, AHB 512, APB2 16, ADC 8: ADC 76, PCLK2 610, its timer 1,220
-    ∷ row (0x80 ∷ 0x13 ∷ 0x12 ∷ 0xD0 ∷ 0x10 ∷ 0x18 ∷ 0x07 ∷ 0x8E ∷ 0x00 ∷ 0x34 ∷ []) adc (gives 76)
-    ∷ row (0x80 ∷ 0x13 ∷ 0x12 ∷ 0xD0 ∷ 0x10 ∷ 0x18 ∷ 0x07 ∷ 0x8E ∷ 0x00 ∷ 0x34 ∷ []) pclk2 (gives 610)
-    ∷ row (0x80 ∷ 0x13 ∷ 0x12 ∷ 0xD0 ∷ 0x10 ∷ 0x18 ∷ 0x07 ∷ 0x8E ∷ 0x00 ∷ 0x34 ∷ []) tim2 (gives 1220)
-    -- A11 the source's default, with the seven numbers of the program
-    ∷ row (0x00 ∷ 0x00 ∷ 0x00 ∷ 0x00 ∷ 0x00 ∷ 0x18 ∷ 0x00 ∷ 0x00 ∷ 0x00 ∷ 0x34 ∷ []) sysclk (gives 20000000)
-    ∷ row (0x00 ∷ 0x00 ∷ 0x00 ∷ 0x00 ∷ 0x00 ∷ 0x18 ∷ 0x00 ∷ 0x00 ∷ 0x00 ∷ 0x34 ∷ []) hclk (gives 20000000)
-    ∷ row (0x00 ∷ 0x00 ∷ 0x00 ∷ 0x00 ∷ 0x00 ∷ 0x18 ∷ 0x00 ∷ 0x00 ∷ 0x00 ∷ 0x34 ∷ []) pclk1 (gives 20000000)
-    ∷ row (0x00 ∷ 0x00 ∷ 0x00 ∷ 0x00 ∷ 0x00 ∷ 0x18 ∷ 0x00 ∷ 0x00 ∷ 0x00 ∷ 0x34 ∷ []) pclk2 (gives 20000000)
-    ∷ row (0x00 ∷ 0x00 ∷ 0x00 ∷ 0x00 ∷ 0x00 ∷ 0x18 ∷ 0x00 ∷ 0x00 ∷ 0x00 ∷ 0x34 ∷ []) tim1 (gives 20000000)
-    ∷ row (0x00 ∷ 0x00 ∷ 0x00 ∷ 0x00 ∷ 0x00 ∷ 0x18 ∷ 0x00 ∷ 0x00 ∷ 0x00 ∷ 0x34 ∷ []) tim2 (gives 20000000)
-    ∷ row (0x00 ∷ 0x00 ∷ 0x00 ∷ 0x00 ∷ 0x00 ∷ 0x18 ∷ 0x00 ∷ 0x00 ∷ 0x00 ∷ 0x34 ∷ []) adc (gives 2500000)
+    ∷ row (0x80 ∷ 0x13 ∷ 0x12 ∷ 0xD0 ∷ 0x10 ∷ 0x18 ∷ 0x07 ∷ 0x8E ∷ 0x00 ∷ 0x34 ∷ [])
+    (hseAt 5000000 (system 1 (ahb 15 (apb2 7 (adcBy 3 default))))) slow (gives (610 ∷ 1220 ∷ 76 ∷ []))
+    -- A11 profile 00 00 00 00 00 18 00 00 00 34 is the source's default; the seven numbers of the program
+    ∷ row (0x00 ∷ 0x00 ∷ 0x00 ∷ 0x00 ∷ 0x00 ∷ 0x18 ∷ 0x00 ∷ 0x00 ∷ 0x00 ∷ 0x34 ∷ [])
+    default seven (gives (20000000 ∷ 20000000 ∷ 20000000 ∷ 20000000 ∷ 20000000 ∷ 20000000 ∷ 2500000 ∷ []))
     ∷ []
 
--- what the definitions answer to a row
-pub answer : Row → Answer ℕ
-answer r = do
-  config ← readProfile (r .profile)
-  a ← checkOf config
-  gives (r .asks a)
+-- Reading a row's bytes gives its configuration, and the check of that says what the row says.
+pub found : Row → Answer Config × Answer (List ℕ)
+found r = (
+  readProfile (r .profile),
+  do
+    a ← checkOf (config (r .parts))
+    gives (r .asks a),
+)
 
-pub said : Row → Answer ℕ
-said r = r .says
+pub wanted : Row → Answer Config × Answer (List ℕ)
+wanted r = (gives (config (r .parts)), r .says)
 
-pub rows-hold : map answer rows ≡ map said rows
-unfolding answer said rows row sysclk hclk pclk1 pclk2 tim1 tim2 adc readProfile tests rawOf hseFields pllFields busFields adcFields configOf bitsAt checkOf named sourcesOf rngOf hsePresentOf hseOf mainOf mainPllOf ethOf ethPllOf usbHsOf referenceOf referenceCodeOf sysclkOf inputOf sysPllOf busesOf clocksOf belowOf busOf timerClock adcOf adcRatioOf limitsOf adcFromHclkOf adcFromUsbHsOf totalOf ahbOf ahbDivisor ahbDivisors apbOf apbDivisor byAhbOf byApbOf
+pub rows-hold : map found rows ≡ map wanted rows
+unfolding found wanted rows row config default hseAt mainPll system sysPll usbHsPll ethPll ahb apb2 adcFrom adcBy sysclk hclk adc slow seven
+    readProfile tests rawOf hseFields pllFields busFields adcFields configOf bitsAt checkOf named sourcesOf rngOf hsePresentOf hseOf mainOf
+    mainPllOf ethOf ethPllOf usbHsOf referenceOf referenceCodeOf sysclkOf inputOf sysPllOf busesOf clocksOf belowOf busOf timerClock adcOf
+    adcRatioOf limitsOf adcFromHclkOf adcFromUsbHsOf totalOf ahbOf ahbDivisor ahbDivisors apbOf apbDivisor byAhbOf byApbOf
 rows-hold = refl
-
--- A11: the profile is the source's default
-abbrev default : Config
-default = record {
-  hse = hse.Absent;
-  sys = 0;
-  «pll_src» = 0;
-  pll = pll.Absent;
-  «syspll_src» = 6;
-  «syspll_pre» = 0;
-  hspll = hspll.Absent;
-  ethpll = false;
-  «ahb_pre» = 0;
-  «apb1_pre» = 0;
-  «apb2_pre» = 0;
-  «rng_src» = 0;
-  «adc_src» = source.Hclk;
-  «adc_pre» = 3;
-  «adc_duty» = 1;
-}
-
-pub default-profile : readProfile (0x00 ∷ 0x00 ∷ 0x00 ∷ 0x00 ∷ 0x00 ∷ 0x18 ∷ 0x00 ∷ 0x00 ∷ 0x00 ∷ 0x34 ∷ []) ≡ gives default
-unfolding readProfile tests rawOf hseFields pllFields busFields adcFields configOf bitsAt
-default-profile = refl

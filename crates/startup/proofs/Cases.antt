@@ -1,36 +1,31 @@
 -- A step by what comes of it: the work that `steps` answers tells the entry of the list, and so what the call has to be.
 -- Assumes nothing.
-use Prim.Native.Nat.{ℕ, zero, suc, _+_, _≤_, _<_}
+use Prim.Native.Nat.{ℕ, zero, suc, _≤_, _<_}
 use mathlib.Core.Path.{_≡_, refl, sym, ap, _∙_, subst}
 use mathlib.Core.Bool.{Bool, true, false, cond, not, _||_}
 use mathlib.Core.List.{List, [], _∷_}
 use native.Mathlib.Omega.{arith}
-use native.Mathlib.Nat.{le-of-suc-le-suc}
 use borrow.Author.Tests.{leb-true, leb-false}
 use lib.Dec.{eqb, leb, ltb}
 use lib.ListN.{drop, drop-of-length-le}
-use Rattle.answer.specs.Answer.{Answer, gives, refuses}
+use Rattle.answer.specs.Answer.{Answer}
 use Rattle.tree.specs.declared.Clocks.{Clocks}
 use Rattle.v4x7.specs.declared.Config.{Config}
 use Rattle.v4x7.specs.declared.Checked.{Checked}
-use Rattle.v4x7.specs.declared.Checked.the-variants as checked
-use Rattle.v4x7.specs.Check.{accepted, refusedOf, namedOf, checkOf}
+use Rattle.v4x7.specs.Check.{accepted, namedOf, checkOf}
 use Rattle.image.specs.declared.Seen.{Seen}
 use Rattle.image.specs.declared.Fields.{Fields}
 use Rattle.image.specs.Image.{inWidth}
 use Rattle.steps.specs.declared.Work.{Work}
 use Rattle.steps.specs.declared.Work.the-variants.{Wrote, Waits, Reads, Compares, NotListed}
 use Rattle.steps.specs.Writes.{withSeen}
-use Rattle.steps.specs.Steps.{Op, write, wait, flash, compare, Entry, entry, steps, from, onIn, workIn, workOf}
+use Rattle.steps.specs.Steps.{write, wait, flash, compare, Entry, entry, steps, from, onIn, workIn, workOf}
 use Rattle.startup.specs.declared.Startup.{Startup}
 use Rattle.startup.specs.declared.Reading.{Reading}
-use Rattle.startup.specs.declared.Stepped.{Stepped}
 use Rattle.startup.specs.declared.Report.{Report}
-use Rattle.startup.specs.declared.Phase.{Phase}
 use Rattle.startup.specs.declared.Phase.the-variants.{Going, Over}
 use Rattle.startup.specs.declared.FlashKey.the-variants.{NoKey}
 use Rattle.startup.specs.Call.{seenOf, modeRead, moved, waitedOf, readBackOf, comparedOf, worksIn, handedBack, callIn, stepBy, stepOf, keyOf}
-use Rattle.startup.proofs.Unnamed.{refusalIn, unnamed}
 
 -- The list behind its first entry.
 abbrev behind : List Entry → List Entry
@@ -157,31 +152,24 @@ module _ (L : ℕ) (s : Startup) (r : Reading) (x : Clocks) {seen : Seen} {w : W
   pub no-step : w ≡ NotListed → handedBack s ≡ worksIn L s r here
   no-step e = none L s r here (does e)
 
--- the number of a check, by what it says
-pub number-said : (r : Checked) → refusedOf r ≡ refusalIn (accepted r)
-number-said (checked.Accepted clocks adc) = refl
-number-said (checked.Refused n) = refl
-
--- A call by the check's answer, the startup's codes, its phase and its place.
-module _ (s : Startup) (r : Reading) (k : Checked) {n : ℕ} {w : Bool} (en : n ≡ refusedOf k) (ek : accepted k ≡ checkOf (s .config)) (ew : w ≡ inWidth (s .fields)) where
-  test : (eqb n 28 || not w) ≡ (not (namedOf (s .config)) || not (inWidth (s .fields)))
-  test =
-      ap (λ (m : ℕ). eqb m 28 || not w) (en ∙ number-said k ∙ ap refusalIn ek) ∙ ap (λ (b : Bool). b || not w) (unnamed (s .config)) ∙
-      ap (λ (b : Bool). not (namedOf (s .config)) || not b) ew
-
-  pub call-code : (eqb n 28 || not w) ≡ true → handedBack s ≡ stepOf s r
+-- A call by the startup's codes, its phase and the check's answer.
+module _ (s : Startup) (r : Reading) {v w : Bool} (ev : v ≡ namedOf (s .config)) (ew : w ≡ inWidth (s .fields)) where
+  chosen : (b : Bool) → (not v || not w) ≡ b → cond b (handedBack s) (stepBy (checkOf (s .config)) s r (s .phase)) ≡ stepOf s r
   unfolding stepOf
-  call-code e = ap (λ (b : Bool). cond b (handedBack s) (stepBy (checkOf (s .config)) s r (s .phase))) (sym e ∙ test)
+  chosen b e =
+      ap (λ (t : Bool). cond t (handedBack s) (stepBy (checkOf (s .config)) s r (s .phase)))
+      (sym e ∙ ap (λ (t : Bool). not t || not w) ev ∙ ap (λ (t : Bool). not (namedOf (s .config)) || not t) ew)
 
-  pub call-by : (eqb n 28 || not w) ≡ false → (h : Phase) → s .phase ≡ h → (j : Checked) → k ≡ j → stepBy (accepted j) s r h ≡ stepOf s r
-  unfolding stepOf
-  call-by e h p j q =
-      ap (λ (a : Checked). stepBy (accepted a) s r h) (sym q) ∙ ap (λ (a : Answer (Clocks × ℕ)). stepBy a s r h) ek ∙
-      ap (stepBy (checkOf (s .config)) s r) (sym p) ∙
-      ap (λ (b : Bool). cond b (handedBack s) (stepBy (checkOf (s .config)) s r (s .phase))) (sym e ∙ test)
+  pub call-code : (not v || not w) ≡ true → handedBack s ≡ stepOf s r
+  call-code e = chosen true e
 
-  pub call-over : (eqb n 28 || not w) ≡ false → (last : Report) → s .phase ≡ Over last → record { startup = s; report = last } ≡ stepOf s r
-  call-over e last p = call-by e (Over last) p k refl
+  pub call-over : (not v || not w) ≡ false → (last : Report) → s .phase ≡ Over last → record { startup = s; report = last } ≡ stepOf s r
+  call-over e last p = ap (stepBy (checkOf (s .config)) s r) (sym p) ∙ chosen false e
+
+  pub call-by : (not v || not w) ≡ false → s .phase ≡ Going → {k : Checked} → accepted k ≡ checkOf (s .config) → (j : Checked) → k ≡ j →
+      stepBy (accepted j) s r Going ≡ stepOf s r
+  call-by e p ek j q =
+      ap (λ (a : Answer (Clocks × ℕ)). stepBy a s r Going) (ap accepted (sym q) ∙ ek) ∙ ap (stepBy (checkOf (s .config)) s r) (sym p) ∙ chosen false e
 
 -- A step that is listed, with no more readings used than there can be.
 module _ (L : ℕ) (s : Startup) (r : Reading) (l : List Entry) {b : Bool} (e : b ≡ onIn l) where

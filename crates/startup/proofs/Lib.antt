@@ -1,3 +1,2 @@
 pub mod Skip
-pub mod Unnamed
 pub mod Cases

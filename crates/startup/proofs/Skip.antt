@@ -1,14 +1,14 @@
 -- Skipping the steps of absent parts, for any list.
 -- Assumes nothing.
 use Prim.Native.Nat.{ℕ, zero, suc, _+_, _≤_, _<_}
-use mathlib.Core.Path.{_≡_, refl, sym, ap, _∙_}
-use mathlib.Core.Bool.{Bool, true, false}
+use mathlib.Core.Path.{_≡_, refl, ap, _∙_}
+use mathlib.Core.Bool.{true, false}
 use mathlib.Core.List.{List, [], _∷_}
 use native.Mathlib.Nat.{not-suc-le-zero, le-of-suc-le-suc, add-zero}
 use native.Mathlib.Numerals.{add-one}
 use native.Mathlib.Omega.{arith}
 use lib.ListN.{drop, length}
-use Rattle.steps.specs.Steps.{Op, Entry, entry, from, onIn}
+use Rattle.steps.specs.Steps.{Entry, entry, from, onIn}
 use Rattle.startup.specs.Call.{skipped}
 
 head-on : (l : List Entry) → onIn l ≡ true → skipped l ≡ 0

@@ -5,9 +5,9 @@ use mathlib.Core.Path.{_≡_, _∙_, refl, sym}
 use mathlib.Core.Bool.{Bool, true, false, cond, not, _||_}
 use mathlib.Core.List.{List, [], _∷_}
 use lib.Dec.{ltb, leb, eqb}
-use lib.ListN.{drop, getD}
+use lib.ListN.{drop}
 use lib.Count.{ones}
-use Rattle.answer.specs.Answer.{Answer, gives, refuses, refuse, _>>_, _>>=_, settled-by}
+use Rattle.answer.specs.Answer.{Answer, gives, refuses, refuse, _>>_, settled-by}
 use Rattle.tree.specs.declared.Clocks.{Clocks}
 use Rattle.v4x7.specs.declared.Config.{Config}
 use Rattle.v4x7.specs.Check.{namedOf, checkOf}

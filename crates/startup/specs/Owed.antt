@@ -1,13 +1,13 @@
 -- The waits owed: the ones of the mask are the parts that the startup turns on.
 -- Assumes nothing.
-use Prim.Native.Nat.{ℕ, _+_, _*_, _≤_, _<_}
+use Prim.Native.Nat.{ℕ, _+_, _≤_}
 use mathlib.Core.Path.{_≡_, refl, ap}
 use mathlib.Core.Bool.{Bool, true, false, cond}
 use native.Mathlib.Omega.{arith}
 use lib.Count.{ones, onesIn}
 use Rattle.v4x7.specs.declared.Config.{Config}
 use Rattle.steps.specs.Steps.{hasHse, hasUsbHs, hasMain}
-use Rattle.startup.specs.Call.{maskOf, waitsOwed, callBound}
+use Rattle.startup.specs.Call.{maskOf, waitsOwed}
 
 abbrev pub bitOf : Bool → ℕ
 bitOf b = cond b 1 0

@@ -1,7 +1,7 @@
 // The stepwise startup of the V4x7 clocks. A host starts it with a configuration and the fields as they are, then calls `step` with a reading
 // each time, writes the fields that come back to the chip, and goes on until the report says that the startup is running, failed or refused.
 ghost use mathlib.Core.Path.{_≡_};
-ghost use mathlib.Core.Bool.{true, false, cond};
+ghost use mathlib.Core.Bool.{cond};
 ghost use Prim.Native.Nat.{_+_, _*_, _≤_, _<_};
 ghost use lib.ListN.{drop};
 ghost use Rattle.tree.specs.declared.Clocks.{Clocks};
@@ -14,9 +14,6 @@ use steps::Work;
 use tree::Clocks;
 use v4x7::Checked;
 use v4x7::Config;
-use v4x7::HsPll;
-use v4x7::Hse;
-use v4x7::Pll;
 use v4x7::refused;
 
 // Of a wait's readings, the one that fails it.
@@ -328,9 +325,7 @@ impl Startup {
         let config = self.config;
         let fields = self.fields;
         let phase = self.phase;
-        let checked = config.clocks();
-        let number = refused(checked);
-        if (number == answer::CODE_NOT_ALLOWED) | !image::in_width(fields) {
+        if !v4x7::named_codes(config) | !image::in_width(fields) {
             return handed_back(self);
         }
         if let Phase::Over(last) = phase {
@@ -339,6 +334,7 @@ impl Startup {
                 report: last,
             };
         }
+        let checked = config.clocks();
         let Checked::Accepted { clocks, adc: _ } = checked else {
             return handed_back(self);
         };

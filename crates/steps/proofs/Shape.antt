@@ -1,10 +1,10 @@
 -- Facts of the list of steps, by their numbers.
 -- Assumes nothing.
 use Prim.Native.Nat.{ℕ, zero, suc, _+_, _≤_, _<_}
-use mathlib.Core.Path.{_≡_, refl, sym, ap, _∙_, subst}
+use mathlib.Core.Path.{_≡_, refl, sym, ap, subst}
 use mathlib.Core.Logic.{_⊎_, inl, inr, ⊎-elim}
 use mathlib.Core.Bool.{Bool, true, false, _&&_}
-use mathlib.Core.List.{List, [], _∷_}
+use mathlib.Core.List.{List, []}
 use native.Mathlib.Omega.{arith}
 use native.Mathlib.Nat.{le-of-suc-le-suc, eq-or-lt-of-le}
 use borrow.Author.Tests.{le-leb, lt-leb, leb-true, leb-false}
@@ -14,7 +14,6 @@ use Rattle.tree.specs.declared.Clocks.{Clocks}
 use Rattle.v4x7.specs.declared.Config.{Config}
 use Rattle.image.specs.declared.Seen.{Seen}
 use Rattle.image.specs.declared.Fields.{Fields}
-use Rattle.steps.specs.declared.Work.{Work}
 use Rattle.steps.specs.declared.Work.the-variants.{NotListed}
 use Rattle.steps.specs.Steps.{Entry, steps, from, onIn, listedOf, workIn, workOf}
 

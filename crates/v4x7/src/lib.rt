@@ -80,8 +80,8 @@ fn named_hspll(hspll: HsPll) -> bool
     }
 }
 
-// Whether each code has a name in the Rust.
-fn named_codes(c: Config) -> bool
+// Whether each code of a configuration, used or not, has a name in the Rust: 28 otherwise. The startup asks this too.
+pub fn named_codes(c: Config) -> bool
     ensures { λ r. ⌜ r ≡ namedOf c ⌝ }
 {
     let pll = c.pll;

@@ -1,7 +1,7 @@
 use borrow.Author.Needs.{needs}
-use Rattle.answer.specs.Answer.{told}
-use Rattle.image.specs.Image.{imageRead}
 use Rattle.capi.specs.Calls.{adcRead}
+use Rattle.image.specs.Image.{imageRead}
+use Rattle.answer.specs.Answer.{told}
 use Rattle.capi.proofs.adc.Statement.{statement}
 use Rattle.capi.proofs.adc.Tie as tie
 

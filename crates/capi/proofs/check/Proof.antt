@@ -1,7 +1,8 @@
 use borrow.Author.Needs.{needs}
-use Rattle.answer.specs.Answer.{told}
-use Rattle.profile.specs.Profile.{profileRead}
 use Rattle.capi.specs.Calls.{checkRead}
+use Rattle.v4x7.specs.Check.{accepted}
+use Rattle.profile.specs.Profile.{profileRead}
+use Rattle.answer.specs.Answer.{told}
 use Rattle.capi.proofs.check.Statement.{statement}
 use Rattle.capi.proofs.check.Tie as tie
 
@@ -17,13 +18,26 @@ enum-known-config c = search needs
 clocks-requires : tie.Need-clocks-requires
 clocks-requires c κs = search needs
 
+enum-known-checked : tie.Need-enum-known-checked
+enum-known-checked c = search needs
+
+enum-told : tie.Need-enum-told
+enum-told c = search needs
+
+refused-requires : tie.Need-refused-requires
+refused-requires c κs = search needs
+
 returns : tie.Need-returns
 unfolding checkRead
-returns c = simp (told profileRead (c .before .before .before .read-profile .ensures) (c .before .n .given .1))
+returns c = simp (told profileRead (c .before .before .before .before .before .before .before .read-profile .ensures) (c .before .before .before .before .before .config .given .1), told accepted (c .before .before .before .clocks .ensures) (c .before .enum-told .given .1), (c .refused .ensures), (c .before .enum-told .given .1))
 
 returns-2 : tie.Need-returns-2
 unfolding checkRead
-returns-2 c = simp (told profileRead (c .before .before .before .before .read-profile .ensures) (c .before .before .config .given .1)) (c .clocks .ensures)
+returns-2 c = simp (told profileRead (c .before .before .before .read-profile .ensures) (c .before .n .given .1))
+
+returns-3 : tie.Need-returns-3
+unfolding checkRead
+returns-3 c = simp (told profileRead (c .before .before .before .before .before .before .before .read-profile .ensures) (c .before .before .before .before .before .config .given .1), told accepted (c .before .before .before .clocks .ensures) (c .before .checked .given .1))
 
 pub check-spec : {M : Type 1} → statement M
 check-spec =
@@ -33,5 +47,9 @@ check-spec =
     enum-known-n
     enum-known-config
     clocks-requires
+    enum-known-checked
+    enum-told
+    refused-requires
     returns
-    returns-2)
+    returns-2
+    returns-3)

@@ -1,8 +1,8 @@
 use mathlib.Core.Path.{sym}
 use borrow.Author.Needs.{needs}
-use Rattle.answer.specs.Answer.{told}
-use Rattle.image.specs.Image.{imageRead}
 use Rattle.capi.specs.Calls.{decodeRead}
+use Rattle.image.specs.Image.{imageRead}
+use Rattle.answer.specs.Answer.{told}
 use Rattle.capi.proofs.decode.Statement.{statement}
 use Rattle.capi.proofs.decode.Tie as tie
 

@@ -1,57 +1,21 @@
 use mathlib.Core.Path.{sym, ap}
 use borrow.Author.Needs.{needs}
-use lib.ListN.{length}
-use Rattle.answer.specs.Answer.{gives, told}
-use Rattle.tree.specs.Tree.{running}
-use Rattle.capi.specs.Calls.{decodeBytes}
-use Rattle.capi.specs.Given.{sixOf}
-use Rattle.capi.proofs.Giving.{short, refused, passed-on}
+use Rattle.lent.specs.Giving.{carried}
+use Rattle.lent.specs.Given.{sixWords}
 use Rattle.capi.proofs.wontabeli_decode.Statement.{statement}
 use Rattle.capi.proofs.wontabeli_decode.Tie as tie
-
-returns : tie.Need-returns
-returns c = short 24 (decodeBytes (c .before .before .before .args .from .now) (c .before .before .before .args .hz)) (c .before .before .before .args .out .now) (c .if1 .taken)
 
 decode-requires : tie.Need-decode-requires
 decode-requires c κs = search needs
 
-enum-known-n : tie.Need-enum-known-n
-enum-known-n c = search needs
-
-enum-known-clocks : tie.Need-enum-known-clocks
-enum-known-clocks c = search needs
-
-six-requires : tie.Need-six-requires
-six-requires c κs = search needs
-
-slice-aggregate-give : tie.Need-slice-aggregate-give
-slice-aggregate-give c = search needs
-
-give-requires : tie.Need-give-requires
-give-requires c κs = search needs
-
-returns-2 : tie.Need-returns-2
-unfolding decodeBytes
-returns-2 c = refused 24 (decodeBytes (c .before .before .before .before .before .before .before .args .from .now) (c .before .before .before .before .before .before .before .args .hz)) (c .before .before .before .before .before .before .before .args .out .now) _ (c .before .before .before .before .if1 .left) (rw (told running (c .before .before .before .decode .ensures) (c .before .n .given .1)))
+give-six-requires : tie.Need-give-six-requires
+give-six-requires c κs = search needs
 
 same-length : tie.Need-same-length
 same-length c = search needs
 
-returns-3 : tie.Need-returns-3
-unfolding decodeBytes sixOf
-returns-3 c = passed-on 24 (decodeBytes (c .before .before .before .before .before .before .before .before .before .before .before .before .before .args .from .now) (c .before .before .before .before .before .before .before .before .before .before .before .before .before .args .hz)) (c .before .before .before .before .before .before .before .before .before .before .before .before .before .args .out .now) (c .before .before .before .before .before .six .result) _ _ (ap length (c .before .before .before .before .before .six .ensures)) (rw (told running (c .before .before .before .before .before .before .before .before .before .decode .ensures) (c .before .before .before .before .before .before .before .clocks .given .1)) (ap gives (sym (c .before .before .before .before .before .six .ensures)))) (c .before .before .give .ensures)
+returns : tie.Need-returns
+returns c = carried _ _ _ _ _ _ (c .before .before .give-six .ensures) (ap sixWords (sym (c .before .before .before .before .decode .ensures)))
 
 pub wontabeli-decode-spec : {M : Type 1} → statement M
-wontabeli-decode-spec =
-    tie.close
-    (tie.spec
-    returns
-    decode-requires
-    enum-known-n
-    enum-known-clocks
-    six-requires
-    slice-aggregate-give
-    give-requires
-    returns-2
-    same-length
-    returns-3)
+wontabeli-decode-spec = tie.close (tie.spec decode-requires give-six-requires same-length returns)

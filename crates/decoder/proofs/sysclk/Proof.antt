@@ -49,16 +49,16 @@ by-one-more-requires c κs = search needs
 returns-4 : tie.Need-returns-4
 unfolding inUseOf
 returns-4 c =
-    let if1 = c .before .before .before .before .before .before .before .before .if1 in
-    let if2 = c .before .before .before .before .before .before .before .if2 in
-    let if3 = c .before .before .before .before .before .before .if3 in
-    let syspll-input = c .before .before .before .before .syspll-input in
-    let input = c .before .before .input in
+    let at-input = c .before .before in
+    let at-syspll-input = at-input .before .before in
+    let at-if3 = at-syspll-input .before .before in
+    let at-if2 = at-if3 .before in
+    let at-if1 = at-if2 .before in
     simp (
-      ne-eqb _ _ (if1 .left),
-      ne-eqb _ _ (if2 .left),
-      eq-eqb _ _ (if3 .taken),
-      told replied (syspll-input .ensures) (input .given .1),
+      ne-eqb _ _ (at-if1 .if1 .left),
+      ne-eqb _ _ (at-if2 .if2 .left),
+      eq-eqb _ _ (at-if3 .if3 .taken),
+      told replied (at-syspll-input .syspll-input .ensures) (at-input .input .given .1),
       c .by-one-more .ensures,
     )
 

@@ -116,18 +116,18 @@ syspll-input-requires-3 c κs = search needs
 returns-6 : tie.Need-returns-6
 unfolding selectedOf
 returns-6 c =
-    let if1 = c .before .before .before .before .before .before .before .before .if1 in
-    let if2 = c .before .before .before .before .before .before .before .if2 in
-    let if3 = c .before .before .before .before .before .before .if3 in
-    let used-hse2 = c .before .before .before .before .before .used-hse2 in
-    let main-pll = c .before .before .before .before .main-pll in
-    let main = c .before .before .main in
+    let at-main = c .before .before in
+    let at-main-pll = at-main .before .before in
+    let at-used-hse2 = at-main-pll .before in
+    let at-if3 = at-used-hse2 .before in
+    let at-if2 = at-if3 .before in
+    let at-if1 = at-if2 .before in
     simp (
-      if1 .left,
-      if2 .left,
-      eq-eqb _ _ (if3 .taken),
-      sym (used-hse2 .ensures),
-      told replied (main-pll .ensures) (main .given .1),
+      at-if1 .if1 .left,
+      at-if2 .if2 .left,
+      eq-eqb _ _ (at-if3 .if3 .taken),
+      sym (at-used-hse2 .used-hse2 .ensures),
+      told replied (at-main-pll .main-pll .ensures) (at-main .main .given .1),
       c .syspll-input3 .ensures,
     )
 

@@ -44,27 +44,27 @@ enum-known-clocks c = search needs
 returns-2 : tie.Need-returns-2
 unfolding prescaledOf
 returns-2 c =
-    let ahb-from-sysclk = c .before .before .before .before .before .before .before .before .ahb-from-sysclk in
-    let divided = c .before .before .before .before .before .before .divided in
-    let hclk-from-ahb = c .before .before .before .before .hclk-from-ahb in
-    let below-hclk = c .before .before .before .below-hclk in
+    let at-below-hclk = c .before .before .before in
+    let at-hclk-from-ahb = at-below-hclk .before in
+    let at-divided = at-hclk-from-ahb .before .before in
+    let at-ahb-from-sysclk = at-divided .before .before in
     simp (
-      told replied (ahb-from-sysclk .ensures) (divided .given .1),
-      sym (hclk-from-ahb .ensures),
-      told running (below-hclk .ensures) (c .before .n .given .1),
+      told replied (at-ahb-from-sysclk .ahb-from-sysclk .ensures) (at-divided .divided .given .1),
+      sym (at-hclk-from-ahb .hclk-from-ahb .ensures),
+      told running (at-below-hclk .below-hclk .ensures) (c .before .n .given .1),
     )
 
 returns-3 : tie.Need-returns-3
 unfolding prescaledOf
 returns-3 c =
-    let ahb-from-sysclk = c .before .before .before .before .before .before .before .before .ahb-from-sysclk in
-    let divided = c .before .before .before .before .before .before .divided in
-    let hclk-from-ahb = c .before .before .before .before .hclk-from-ahb in
-    let below-hclk = c .before .before .before .below-hclk in
+    let at-below-hclk = c .before .before .before in
+    let at-hclk-from-ahb = at-below-hclk .before in
+    let at-divided = at-hclk-from-ahb .before .before in
+    let at-ahb-from-sysclk = at-divided .before .before in
     simp (
-      told replied (ahb-from-sysclk .ensures) (divided .given .1),
-      sym (hclk-from-ahb .ensures),
-      told running (below-hclk .ensures) (c .before .clocks .given .1),
+      told replied (at-ahb-from-sysclk .ahb-from-sysclk .ensures) (at-divided .divided .given .1),
+      sym (at-hclk-from-ahb .hclk-from-ahb .ensures),
+      told running (at-below-hclk .below-hclk .ensures) (c .before .clocks .given .1),
     )
 
 pub clocks-from-sysclk-spec : {M : Type 1} → statement M

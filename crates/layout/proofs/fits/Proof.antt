@@ -60,9 +60,9 @@ fits-in-requires c κs = search needs
 
 returns-2 : tie.Need-returns-2 Inv-loop μ-loop
 returns-2 c =
-    let l = c .before .before .before .before .before .loop in
-    let s = c .before .before .before .before .before .before .before .before .before in
-    wrong (s .args .ws .now) (s .args .xs .now) (l .i) (c .before .before .before .before .before .before .if1 .left) (l .inv .1) _ (c .before .before .before .before .loop-test .taken) (c .before .fits-in .ensures)
+    let at-loop = c .before .before .before .before .before in
+    let at-before = at-loop .before .before .before in
+    wrong (at-before .before .args .ws .now) (at-before .before .args .xs .now) (at-loop .loop .i) (c .before .before .before .before .before .before .if1 .left) (at-loop .loop .inv .1) _ (c .before .before .before .before .loop-test .taken) (c .before .fits-in .ensures)
     (c .if2 .taken)
 
 add-i : tie.Need-add-i Inv-loop μ-loop

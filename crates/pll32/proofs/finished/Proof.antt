@@ -58,36 +58,36 @@ usb-requires c κs = search needs
 returns-3 : tie.Need-returns-3
 unfolding finishedOf
 returns-3 c =
-    let too-wide = c .before .before .before .before .before .before .before .before .before .before .too-wide in
-    let if1 = c .before .before .before .before .before .before .before .before .before .if1 in
-    let sysclk = c .before .before .before .before .before .before .before .before .sysclk in
-    let system = c .before .before .before .before .before .before .system in
-    let family = c .before .before .before .before .family in
-    let bus-clocks = c .before .before .before .bus-clocks in
+    let at-bus-clocks = c .before .before .before in
+    let at-family = at-bus-clocks .before in
+    let at-system = at-family .before .before in
+    let at-sysclk = at-system .before .before in
+    let at-if1 = at-sysclk .before in
+    let at-too-wide = at-if1 .before in
     simp (
-      sym (too-wide .ensures),
-      if1 .left,
-      told replied (sysclk .ensures) (system .given .1),
-      sym (family .ensures),
-      told running (bus-clocks .ensures) (c .before .n .given .1),
+      sym (at-too-wide .too-wide .ensures),
+      at-if1 .if1 .left,
+      told replied (at-sysclk .sysclk .ensures) (at-system .system .given .1),
+      sym (at-family .family .ensures),
+      told running (at-bus-clocks .bus-clocks .ensures) (c .before .n .given .1),
     )
 
 returns-4 : tie.Need-returns-4
 unfolding finishedOf
 returns-4 c =
-    let too-wide = c .before .before .before .before .before .before .before .before .before .before .before .too-wide in
-    let if1 = c .before .before .before .before .before .before .before .before .before .before .if1 in
-    let sysclk = c .before .before .before .before .before .before .before .before .before .sysclk in
-    let system = c .before .before .before .before .before .before .before .system in
-    let family = c .before .before .before .before .before .family in
-    let bus-clocks = c .before .before .before .before .bus-clocks in
-    let clocks = c .before .before .clocks in
+    let at-clocks = c .before .before in
+    let at-bus-clocks = at-clocks .before .before in
+    let at-family = at-bus-clocks .before in
+    let at-system = at-family .before .before in
+    let at-sysclk = at-system .before .before in
+    let at-if1 = at-sysclk .before in
+    let at-too-wide = at-if1 .before in
     simp (
-      sym (too-wide .ensures),
-      if1 .left,
-      told replied (sysclk .ensures) (system .given .1),
-      sym (family .ensures),
-      told running (bus-clocks .ensures) (clocks .given .1),
+      sym (at-too-wide .too-wide .ensures),
+      at-if1 .if1 .left,
+      told replied (at-sysclk .sysclk .ensures) (at-system .system .given .1),
+      sym (at-family .family .ensures),
+      told running (at-bus-clocks .bus-clocks .ensures) (at-clocks .clocks .given .1),
       c .usb .ensures,
     )
 

@@ -47,10 +47,6 @@ unfolding multipliedOf
 returns-3 c =
     let factor-of = c .before .before .before .factor-of in
     let if1 = c .before .before .if1 in
-    let factor-of = factor-of in
-    let if1 = if1 in
-    let factor-of = factor-of in
-    let if1 = if1 in
     simp (sym (factor-of .ensures), le-ltb _ _ (if1 .left), sym (c .before .halved .ensures), c .if2 .left)
 
 pub multiplied-spec : {M : Type 1} → statement M

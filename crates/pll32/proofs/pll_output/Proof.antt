@@ -24,10 +24,6 @@ unfolding outputOf
 returns-2 c =
     let if1 = c .before .before .before .if1 in
     let from = c .before .before .from in
-    let if1 = if1 in
-    let from = from in
-    let if1 = if1 in
-    let from = from in
     simp (lt-leb _ _ (if1 .left), from .ensures, told replied (from .ensures) (c .enum-told .given .1))
 
 by-one-more-requires : tie.Need-by-one-more-requires

@@ -37,11 +37,11 @@ same-length c = search needs
 
 returns-2 : tie.Need-returns-2
 returns-2 c =
-    let args = c .before .before .before .before .before .before .before .before .before .before .before .before .args in
-    let check = c .before .before .before .before .before .before .before .before .before .check in
-    let put-answer = c .before .before .before .before .before .before .before .put-answer in
-    let put-bytes = c .before .before .put-bytes in
-    fits (args .profile .now) (args .out .now) (check .ensures) (put-answer .ensures .0) (search needs) (search needs) (put-bytes .ensures)
+    let at-put-bytes = c .before .before in
+    let at-put-answer = at-put-bytes .before .before .before .before .before in
+    let at-check = at-put-answer .before .before in
+    let args = at-check .before .before .before .args in
+    fits (args .profile .now) (args .out .now) (at-check .check .ensures) (at-put-answer .put-answer .ensures .0) (search needs) (search needs) (at-put-bytes .put-bytes .ensures)
 
 pub report-spec : {M : Type 1} → statement M
 report-spec =

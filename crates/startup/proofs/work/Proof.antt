@@ -29,12 +29,12 @@ seeing-requires c κs = search needs
 
 waited-requires : tie.Need-waited-requires
 waited-requires c κs =
-    let args = c .before .before .before .before .before .before .before .before .args in
-    let seen-of = c .before .before .before .before .before .seen-of in
-    let perform = c .before .before .before .before .perform in
-    let met = c .before .before .met in
-    let pre = c .before .before .before .before .before .before .before .before .pre in
-    (place 1000000 (args .s) (args .reading) (args .promised) (seen-of .ensures) (perform .ensures) (met .given .1) tt .1, pre)
+    let at-met = c .before .before in
+    let at-perform = at-met .before .before in
+    let at-seen-of = at-perform .before in
+    let args = at-seen-of .before .before .before .args in
+    let at-pre = at-seen-of .before .before .before in
+    (place 1000000 (args .s) (args .reading) (args .promised) (at-seen-of .seen-of .ensures) (at-perform .perform .ensures) (at-met .met .given .1) tt .1, at-pre .pre)
 
 enum-known-mode : tie.Need-enum-known-mode
 enum-known-mode c = search needs
@@ -44,12 +44,12 @@ seeing-requires-2 c κs = search needs
 
 read-back-requires : tie.Need-read-back-requires
 read-back-requires c κs =
-    let args = c .before .before .before .before .before .before .before .before .before .args in
-    let seen-of = c .before .before .before .before .before .before .seen-of in
-    let perform = c .before .before .before .before .before .perform in
-    let mode = c .before .before .before .mode in
-    let pre = c .before .before .before .before .before .before .before .before .before .pre in
-    (place 1000000 (args .s) (args .reading) (args .promised) (seen-of .ensures) (perform .ensures) (mode .given .1) tt .1, pre)
+    let at-mode = c .before .before .before in
+    let at-perform = at-mode .before .before in
+    let at-seen-of = at-perform .before in
+    let args = at-seen-of .before .before .before .args in
+    let at-pre = at-seen-of .before .before .before in
+    (place 1000000 (args .s) (args .reading) (args .promised) (at-seen-of .seen-of .ensures) (at-perform .perform .ensures) (at-mode .mode .given .1) tt .1, at-pre .pre)
 
 enum-known-same : tie.Need-enum-known-same
 enum-known-same c = search needs
@@ -65,40 +65,40 @@ handed-back-requires c κs = search needs
 
 returns : tie.Need-returns
 returns c =
-    let args = c .before .before .before .before .before .before .before .before .args in
-    let seen-of = c .before .before .before .before .before .seen-of in
-    let perform = c .before .before .before .before .perform in
-    let written = c .before .before .written in
+    let at-written = c .before .before in
+    let at-perform = at-written .before .before in
+    let at-seen-of = at-perform .before in
+    let args = at-seen-of .before .before .before .args in
     (c .onward .ensures) (args .promised) ∙
-    wrote-step 1000000 (args .s) (args .reading) (args .promised) (seen-of .ensures) (perform .ensures) (written .given .1)
+    wrote-step 1000000 (args .s) (args .reading) (args .promised) (at-seen-of .seen-of .ensures) (at-perform .perform .ensures) (at-written .written .given .1)
 
 returns-2 : tie.Need-returns-2
 returns-2 c =
-    let args = c .before .before .before .before .before .before .before .before .before .args in
-    let seen-of = c .before .before .before .before .before .before .seen-of in
-    let perform = c .before .before .before .before .before .perform in
-    let met = c .before .before .before .met in
+    let at-met = c .before .before .before in
+    let at-perform = at-met .before .before in
+    let at-seen-of = at-perform .before in
+    let args = at-seen-of .before .before .before .args in
     (c .waited .ensures) (args .promised) ∙
-    wait-step 1000000 (args .s) (args .reading) (args .promised) (seen-of .ensures) (perform .ensures) (c .before .seeing .ensures) (met .given .1)
+    wait-step 1000000 (args .s) (args .reading) (args .promised) (at-seen-of .seen-of .ensures) (at-perform .perform .ensures) (c .before .seeing .ensures) (at-met .met .given .1)
 
 returns-3 : tie.Need-returns-3
 returns-3 c =
-    let args = c .before .before .before .before .before .before .before .before .before .before .args in
-    let seen-of = c .before .before .before .before .before .before .before .seen-of in
-    let perform = c .before .before .before .before .before .before .perform in
-    let seeing2 = c .before .before .seeing2 in
-    let mode = c .before .before .before .before .mode in
+    let at-seeing2 = c .before .before in
+    let at-mode = at-seeing2 .before .before in
+    let at-perform = at-mode .before .before in
+    let at-seen-of = at-perform .before in
+    let args = at-seen-of .before .before .before .args in
     (c .read-back .ensures) (args .promised) ∙
-    read-step 1000000 (args .s) (args .reading) (args .promised) (seen-of .ensures) (perform .ensures) (seeing2 .ensures) (mode .given .1)
+    read-step 1000000 (args .s) (args .reading) (args .promised) (at-seen-of .seen-of .ensures) (at-perform .perform .ensures) (at-seeing2 .seeing2 .ensures) (at-mode .mode .given .1)
 
 returns-4 : tie.Need-returns-4
 returns-4 c =
-    let args = c .before .before .before .before .before .before .before .before .args in
-    let seen-of = c .before .before .before .before .before .seen-of in
-    let perform = c .before .before .before .before .perform in
-    let same = c .before .before .same in
+    let at-same = c .before .before in
+    let at-perform = at-same .before .before in
+    let at-seen-of = at-perform .before in
+    let args = at-seen-of .before .before .before .args in
     (c .compared .ensures) ∙
-    compare-step 1000000 (args .s) (args .reading) (args .promised) (seen-of .ensures) (perform .ensures) (same .given .1)
+    compare-step 1000000 (args .s) (args .reading) (args .promised) (at-seen-of .seen-of .ensures) (at-perform .perform .ensures) (at-same .same .given .1)
 
 returns-5 : tie.Need-returns-5
 returns-5 c =

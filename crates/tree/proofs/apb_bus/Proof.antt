@@ -60,13 +60,13 @@ returns-2 c =
 returns-3 : tie.Need-returns-3
 unfolding busOf timerClock
 returns-3 c =
-    let apb = c .before .before .before .before .before .before .before .before .apb in
-    let divisor = c .before .before .before .before .before .before .divisor in
-    let by-apb = c .before .before .before .before .by-apb in
-    let divided = c .before .before .divided in
+    let at-divided = c .before .before in
+    let at-by-apb = at-divided .before .before in
+    let at-divisor = at-by-apb .before .before in
+    let at-apb = at-divisor .before .before in
     simp (
-      told replied (apb .ensures) (divisor .given .1),
-      told replied (by-apb .ensures) (divided .given .1),
+      told replied (at-apb .apb .ensures) (at-divisor .divisor .given .1),
+      told replied (at-by-apb .by-apb .ensures) (at-divided .divided .given .1),
       eq-eqb _ _ (c .if1 .taken),
     )
 
@@ -75,33 +75,33 @@ doubling-requires c κs = search needs
 
 mul-t13 : tie.Need-mul-t13
 mul-t13 c =
-    let divisor = c .before .before .before .before .before .before .before .before .divisor in
-    let args = c .before .before .before .before .before .before .before .before .before .before .before .args in
-    let apb = c .before .before .before .before .before .before .before .before .before .before .apb in
-    let if1 = c .before .before .if1 in
-    let by-apb = c .before .before .before .before .before .before .by-apb in
-    let divided = c .before .before .before .before .divided in
-    let fits = c .before .before .before .before .before .before .before .before .before .before .before .fits in
-    let one : 1 ≤ (divisor .given .0 .0) = apb-given (args .code) (told replied (apb .ensures) (divisor .given .1)) .low in
-    let two : 2 ≤ (divisor .given .0 .0) = omega (arith, if1 .left, one) in
+    let at-if1 = c .before .before in
+    let at-divided = at-if1 .before .before in
+    let at-by-apb = at-divided .before .before in
+    let at-divisor = at-by-apb .before .before in
+    let at-apb = at-divisor .before .before in
+    let args = at-apb .before .args in
+    let at-fits = at-apb .before in
+    let one : 1 ≤ (at-divisor .divisor .given .0 .0) = apb-given (args .code) (told replied (at-apb .apb .ensures) (at-divisor .divisor .given .1)) .low in
+    let two : 2 ≤ (at-divisor .divisor .given .0 .0) = omega (arith, at-if1 .if1 .left, one) in
     omega (
       arith,
-      by-apb-twice (args .hclk) (args .code) (told replied (apb .ensures) (divisor .given .1)) (told replied (by-apb .ensures) (divided .given .1)) two,
-      fits .hclk,
+      by-apb-twice (args .hclk) (args .code) (told replied (at-apb .apb .ensures) (at-divisor .divisor .given .1)) (told replied (at-by-apb .by-apb .ensures) (at-divided .divided .given .1)) two,
+      at-fits .fits .hclk,
     )
 
 returns-4 : tie.Need-returns-4
 unfolding busOf timerClock
 returns-4 c =
-    let apb = c .before .before .before .before .before .before .before .before .before .before .apb in
-    let divisor = c .before .before .before .before .before .before .before .before .divisor in
-    let by-apb = c .before .before .before .before .before .before .by-apb in
-    let divided = c .before .before .before .before .divided in
-    let if1 = c .before .before .if1 in
+    let at-if1 = c .before .before in
+    let at-divided = at-if1 .before .before in
+    let at-by-apb = at-divided .before .before in
+    let at-divisor = at-by-apb .before .before in
+    let at-apb = at-divisor .before .before in
     simp (
-      told replied (apb .ensures) (divisor .given .1),
-      told replied (by-apb .ensures) (divided .given .1),
-      ne-eqb _ _ (if1 .left),
+      told replied (at-apb .apb .ensures) (at-divisor .divisor .given .1),
+      told replied (at-by-apb .by-apb .ensures) (at-divided .divided .given .1),
+      ne-eqb _ _ (at-if1 .if1 .left),
       sym (c .before .doubling .ensures),
       c .if2 .taken,
     )
@@ -109,15 +109,15 @@ returns-4 c =
 returns-5 : tie.Need-returns-5
 unfolding busOf timerClock
 returns-5 c =
-    let apb = c .before .before .before .before .before .before .before .before .before .before .apb in
-    let divisor = c .before .before .before .before .before .before .before .before .divisor in
-    let by-apb = c .before .before .before .before .before .before .by-apb in
-    let divided = c .before .before .before .before .divided in
-    let if1 = c .before .before .if1 in
+    let at-if1 = c .before .before in
+    let at-divided = at-if1 .before .before in
+    let at-by-apb = at-divided .before .before in
+    let at-divisor = at-by-apb .before .before in
+    let at-apb = at-divisor .before .before in
     simp (
-      told replied (apb .ensures) (divisor .given .1),
-      told replied (by-apb .ensures) (divided .given .1),
-      ne-eqb _ _ (if1 .left),
+      told replied (at-apb .apb .ensures) (at-divisor .divisor .given .1),
+      told replied (at-by-apb .by-apb .ensures) (at-divided .divided .given .1),
+      ne-eqb _ _ (at-if1 .if1 .left),
       sym (c .before .doubling .ensures),
       c .if2 .left,
     )

@@ -34,9 +34,6 @@ returns-2 c =
     let pll = c .before .before .before .before .before .before .pll in
     let less-of = c .before .before .before .before .less-of in
     let pll-output = c .before .before .before .pll-output in
-    let pll = pll in
-    let less-of = less-of in
-    let pll-output = pll-output in
     simp (pll .given .1, sym (less-of .ensures), told replied (pll-output .ensures) (c .before .n .given .1))
 
 returns-3 : tie.Need-returns-3
@@ -45,9 +42,6 @@ returns-3 c =
     let pll = c .before .before .before .before .before .before .pll in
     let less-of = c .before .before .before .before .less-of in
     let pll-output = c .before .before .before .pll-output in
-    let pll = pll in
-    let less-of = less-of in
-    let pll-output = pll-output in
     simp (pll .given .1, sym (less-of .ensures), told replied (pll-output .ensures) (c .before .hz .given .1))
 
 pub pll-of-spec : {M : Type 1} → statement M

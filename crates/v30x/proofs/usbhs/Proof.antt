@@ -41,14 +41,14 @@ returns-2 c =
 returns-3 : tie.Need-returns-3
 unfolding usbhsOf
 returns-3 c =
-    let hspll = c .before .before .before .before .before .before .before .before .hspll in
-    let from = c .before .before .before .before .before .before .from in
-    let hz = c .before .before .before .before .hz in
-    let by-one-more = c .before .before .by-one-more in
+    let at-by-one-more = c .before .before in
+    let at-hz = at-by-one-more .before .before in
+    let at-from = at-hz .before .before in
+    let at-hspll = at-from .before .before in
     simp (
-      hspll .given .1,
-      told replied (from .ensures) (hz .given .1),
-      sym (by-one-more .ensures),
+      at-hspll .hspll .given .1,
+      told replied (at-from .from .ensures) (at-hz .hz .given .1),
+      sym (at-by-one-more .by-one-more .ensures),
       sym (c .before .reference-allowed .ensures),
       c .if1 .taken,
     )
@@ -56,14 +56,14 @@ returns-3 c =
 returns-4 : tie.Need-returns-4
 unfolding usbhsOf
 returns-4 c =
-    let hspll = c .before .before .before .before .before .before .before .before .hspll in
-    let from = c .before .before .before .before .before .before .from in
-    let hz = c .before .before .before .before .hz in
-    let by-one-more = c .before .before .by-one-more in
+    let at-by-one-more = c .before .before in
+    let at-hz = at-by-one-more .before .before in
+    let at-from = at-hz .before .before in
+    let at-hspll = at-from .before .before in
     simp (
-      hspll .given .1,
-      told replied (from .ensures) (hz .given .1),
-      sym (by-one-more .ensures),
+      at-hspll .hspll .given .1,
+      told replied (at-from .from .ensures) (at-hz .hz .given .1),
+      sym (at-by-one-more .by-one-more .ensures),
       sym (c .before .reference-allowed .ensures),
       c .if1 .left,
     )

@@ -29,12 +29,12 @@ same-length c = search needs
 returns : tie.Need-returns
 unfolding lineOf
 returns c =
-    let put-bytes = c .before .before .before .before .before .before .before .before .before .before .before .before .before .before .put-bytes in
-    let put-byte = c .before .before .before .before .before .before .before .before .before .before .put-byte in
-    let put-decimal = c .before .before .before .before .before .before .put-decimal in
-    let put-byte2 = c .before .before .put-byte2 in
-    let args = c .before .before .before .before .before .before .before .before .before .before .before .before .before .before .before .before .before .before .args in
-    (then (put-bytes .ensures) (then (put-byte .ensures) (then (put-decimal .ensures) (put-byte2 .ensures))), omega (arith, ten-digits (args .n) (search needs)))
+    let at-put-byte2 = c .before .before in
+    let at-put-decimal = at-put-byte2 .before .before .before .before in
+    let at-put-byte = at-put-decimal .before .before .before .before in
+    let at-put-bytes = at-put-byte .before .before .before .before in
+    let args = at-put-bytes .before .before .before .before .args in
+    (then (at-put-bytes .put-bytes .ensures) (then (at-put-byte .put-byte .ensures) (then (at-put-decimal .put-decimal .ensures) (at-put-byte2 .put-byte2 .ensures))), omega (arith, ten-digits (args .n) (search needs)))
 
 pub put-line-spec : {M : Type 1} → statement M
 put-line-spec =

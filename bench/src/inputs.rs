@@ -1,0 +1,148 @@
+//! What both sides are measured on: the configurations, and what is made of them before.
+
+use crate::ours::{self, Place};
+use crate::record::{CONFIG, FIELDS};
+use crate::theirs;
+use hal_v4x7::Config;
+
+pub type Profile = [u8; 10];
+
+/// Accepted: rows of document 01, and the profile with every part of docs/FORMATS.md.
+pub const ACCEPTED: [(&str, Profile); 5] = [
+    (
+        "A11, the default: HSI",
+        [0x00, 0x00, 0x00, 0x00, 0x00, 0x18, 0x00, 0x00, 0x00, 0x34],
+    ),
+    (
+        "A6: HSE 8,000,001 Hz, main PLL by 12.5",
+        [0x80, 0x1e, 0x84, 0x80, 0x6c, 0xb8, 0x00, 0x00, 0x00, 0x34],
+    ),
+    (
+        "A7: HSE 25 MHz, two thirds of the ETH PLL by 2",
+        [0x80, 0x5f, 0x5e, 0x10, 0x20, 0x0c, 0x88, 0x00, 0x00, 0x34],
+    ),
+    (
+        "A9: USBHS PLL from HSI, ADC from it by 2",
+        [0x00, 0x00, 0x00, 0x00, 0x00, 0x18, 0x50, 0x00, 0x40, 0xb4],
+    ),
+    (
+        "every part",
+        [0xc0, 0x5f, 0x5e, 0x10, 0x2d, 0x98, 0xcc, 0x58, 0xc1, 0x34],
+    ),
+];
+
+/// Refused: the number, and what the Rust's panic says.
+pub const REFUSED: [(&str, Profile, u8, &str); 4] = [
+    (
+        "A2: HSE 4,999,999 Hz",
+        [0x80, 0x13, 0x12, 0xcf, 0xc0, 0x18, 0x00, 0x00, 0x00, 0x34],
+        4,
+        "HSE must be 5..32 MHz",
+    ),
+    (
+        "A4: HSI by 21",
+        [0x00, 0x00, 0x00, 0x00, 0x06, 0xb8, 0x00, 0x00, 0x00, 0x34],
+        5,
+        "PLL output must be 100..400 MHz",
+    ),
+    (
+        "HSI by 20: HCLK 400 MHz",
+        [0x00, 0x00, 0x00, 0x00, 0x26, 0x98, 0x00, 0x00, 0x00, 0x34],
+        12,
+        "CH32V4x7 HCLK exceeds the 200 MHz rated limit",
+    ),
+    (
+        "A8: ADC above 30 MHz by a fraction",
+        [0x80, 0x43, 0xd1, 0x1c, 0xac, 0xf8, 0x80, 0x00, 0x00, 0x14],
+        15,
+        "ADC clock exceeds 30 MHz",
+    ),
+];
+
+/// An accepted configuration: as both sides take it, and its registers after the startup.
+pub struct Good {
+    pub name: &'static str,
+    pub profile: Profile,
+    pub bytes: [u8; CONFIG],
+    pub config: Config,
+    pub hse: Option<u32>,
+    pub image: [u8; 8],
+    pub fields: [u8; FIELDS],
+    /// The bytes and the fields with the filling behind them, as our calls take them.
+    pub profile_fields: ours::ProfileFields,
+    pub image_fields: ours::ImageFields,
+    /// Its startup before step 23, which writes, and before step 2, which waits for HSI.
+    pub writing: Place,
+    pub waiting: Place,
+}
+
+pub struct Bad {
+    pub name: &'static str,
+    pub profile: Profile,
+    pub config: Config,
+    pub number: u8,
+    pub message: &'static str,
+}
+
+pub struct Inputs {
+    pub good: Vec<Good>,
+    pub bad: Vec<Bad>,
+}
+
+fn bytes_of(profile: &Profile) -> [u8; CONFIG] {
+    theirs::theirs_read_profile(profile).expect("a profile that can be read")
+}
+
+/// The startup of a profile before a step.
+fn before(profile: &Profile, step: u8) -> Place {
+    let mut place = [0; 32];
+    let mut number = ours::start(profile, &mut place);
+    while number == 0 && place[ours::STEP] != step {
+        let reading = ours::reading(&place);
+        number = ours::step(&mut place, reading);
+    }
+    assert!(number == 0, "the startup is refused by {}", number);
+    place
+}
+
+/// The filling, zero, behind the fields.
+fn filled<const N: usize>(fields: &[u8]) -> [u8; N] {
+    let mut all = [0; N];
+    all[..fields.len()].copy_from_slice(fields);
+    all
+}
+
+fn good(name: &'static str, profile: Profile) -> Good {
+    let bytes = bytes_of(&profile);
+    let config = theirs::config_of(&bytes);
+    // The registers as the Rust leaves them: both decoders are handed what the Rust wrote.
+    theirs::theirs_startup(&config);
+    let fields = hal_v4x7::pac::fields();
+    Good {
+        name,
+        profile,
+        bytes,
+        config,
+        hse: config.hse.map(|hse| hse.freq.0),
+        image: theirs::theirs_write_image(&fields).expect("fields within their widths"),
+        fields,
+        profile_fields: filled(&bytes),
+        image_fields: filled(&fields),
+        writing: before(&profile, 23),
+        waiting: before(&profile, 2),
+    }
+}
+
+pub fn inputs() -> Inputs {
+    let bad = |(name, profile, number, message): &(&'static str, Profile, u8, &'static str)| Bad {
+        name,
+        profile: *profile,
+        config: theirs::config_of(&bytes_of(profile)),
+        number: *number,
+        message,
+    };
+    Inputs {
+        good: ACCEPTED.iter().map(|(name, profile)| good(name, *profile)).collect(),
+        bad: REFUSED.iter().map(bad).collect(),
+    }
+}

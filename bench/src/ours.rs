@@ -1,0 +1,125 @@
+//! Our calls, as include/wontabeli.h has them. What a call gives is taken apart here alone: frequencies are words.
+
+extern "C" {
+    fn wontabeli_check(profile: *const u8, profile_len: usize, out: *mut u32, out_len: usize) -> u8;
+    fn wontabeli_decode(image: *const u8, image_len: usize, hse: u32, out: *mut u32, out_len: usize) -> u8;
+    fn wontabeli_read_profile(profile: *const u8, profile_len: usize, out: *mut u8, out_len: usize) -> u8;
+    fn wontabeli_write_profile(fields: *const u8, fields_len: usize, out: *mut u8, out_len: usize) -> u8;
+    fn wontabeli_read_image(image: *const u8, image_len: usize, out: *mut u8, out_len: usize) -> u8;
+    fn wontabeli_write_image(fields: *const u8, fields_len: usize, out: *mut u8, out_len: usize) -> u8;
+    fn wontabeli_start(
+        profile: *const u8,
+        profile_len: usize,
+        image: *const u8,
+        image_len: usize,
+        place: *mut u8,
+        place_len: usize,
+    ) -> u8;
+    fn wontabeli_step(place: *mut u8, place_len: usize, reading: u16) -> u8;
+}
+
+pub type Checked = [u32; 7];
+pub type Decoded = [u32; 6];
+pub type Place = [u8; 32];
+/// The fields one a byte, the filling last.
+pub type ProfileFields = [u8; 24];
+pub type ImageFields = [u8; 34];
+pub const NONE: Checked = [0; 7];
+pub const NO_CLOCKS: Decoded = [0; 6];
+
+/// Where a place has its image, its step and its phase.
+const IMAGE: usize = 10;
+pub const STEP: usize = 18;
+const PHASE: usize = 27;
+
+/// The inner functions that cost is asked of, as the archives name them: the check, the decoder, the image's reader.
+pub const CHECK: &str = "v4x7::Config::clocks";
+pub const DECODE: &str = "decoder::decode";
+pub const READ_IMAGE: &str = "image::read_image";
+
+/// The frequencies of an answer.
+pub fn numbers(out: &[u32]) -> Vec<u32> {
+    out.to_vec()
+}
+
+#[inline]
+pub fn check(profile: &[u8; 10], out: &mut Checked) -> u8 {
+    unsafe { wontabeli_check(profile.as_ptr(), profile.len(), out.as_mut_ptr(), out.len()) }
+}
+
+#[inline]
+pub fn decode(image: &[u8; 8], hse: u32, out: &mut Decoded) -> u8 {
+    unsafe { wontabeli_decode(image.as_ptr(), image.len(), hse, out.as_mut_ptr(), out.len()) }
+}
+
+#[inline]
+pub fn read_profile(profile: &[u8; 10], out: &mut ProfileFields) -> u8 {
+    unsafe { wontabeli_read_profile(profile.as_ptr(), profile.len(), out.as_mut_ptr(), out.len()) }
+}
+
+#[inline]
+pub fn write_profile(fields: &ProfileFields, out: &mut [u8; 10]) -> u8 {
+    unsafe { wontabeli_write_profile(fields.as_ptr(), fields.len(), out.as_mut_ptr(), out.len()) }
+}
+
+#[inline]
+pub fn read_image(image: &[u8; 8], out: &mut ImageFields) -> u8 {
+    unsafe { wontabeli_read_image(image.as_ptr(), image.len(), out.as_mut_ptr(), out.len()) }
+}
+
+#[inline]
+pub fn write_image(fields: &ImageFields, out: &mut [u8; 8]) -> u8 {
+    unsafe { wontabeli_write_image(fields.as_ptr(), fields.len(), out.as_mut_ptr(), out.len()) }
+}
+
+#[inline]
+pub fn start(profile: &[u8; 10], place: &mut Place) -> u8 {
+    let image = [0; 8];
+    unsafe {
+        wontabeli_start(
+            profile.as_ptr(),
+            profile.len(),
+            image.as_ptr(),
+            image.len(),
+            place.as_mut_ptr(),
+            place.len(),
+        )
+    }
+}
+
+#[inline]
+pub fn step(place: &mut Place, reading: u16) -> u8 {
+    unsafe { wontabeli_step(place.as_mut_ptr(), place.len(), reading) }
+}
+
+pub fn image(place: &Place) -> [u8; 8] {
+    let mut image = [0; 8];
+    image.copy_from_slice(&place[IMAGE..IMAGE + 8]);
+    image
+}
+
+/// The reading of a chip on which what is on is ready and the clock that was asked for is in use, at once.
+#[inline]
+pub fn reading(place: &Place) -> u16 {
+    let b = &place[IMAGE..IMAGE + 8];
+    let bit = |at: u32| u16::from(b[0] >> at & 1);
+    let ready = bit(7) | bit(5) << 1 | bit(3) << 2 | bit(2) << 3 | bit(1) << 4;
+    let sws = u16::from(b[1] & 3);
+    let sckmod = u16::from((b[6] & 1) << 1 | b[7] >> 7);
+    ready | sws << 5 | sckmod << 7
+}
+
+/// A whole startup: 1 where it runs, else the refusal.
+#[no_mangle]
+#[inline(never)]
+pub extern "C" fn ours_startup(profile: &[u8; 10], place: &mut Place) -> u8 {
+    let mut number = start(profile, place);
+    while number == 0 && place[PHASE] == 0 {
+        number = step(place, reading(place));
+    }
+    if number == 0 {
+        place[PHASE]
+    } else {
+        number
+    }
+}

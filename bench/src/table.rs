@@ -1,0 +1,125 @@
+//! The table: a line for each case, in Markdown.
+
+use crate::callgrind::Counts;
+use crate::cases::{cases, measured, Case, Half};
+use crate::inputs::Inputs;
+use std::time::Instant;
+
+const HEAD: &str = "| work, a call | ours, instructions | the Rust's | ratio | ours, ns | the Rust's, ns | ratio |";
+
+/// A line: instructions of both sides, then nanoseconds.
+pub struct Line {
+    name: &'static str,
+    instructions: [Option<f64>; 2],
+    nanoseconds: [Option<f64>; 2],
+}
+
+/// Every half of every case once, in the table's order.
+pub fn calls(inputs: &Inputs) {
+    for half in cases().iter().flat_map(halves) {
+        measured(half.run, inputs);
+    }
+}
+
+fn halves(case: &Case) -> Vec<&Half> {
+    std::iter::once(&case.ours).chain(&case.theirs).collect()
+}
+
+/// The lines, from callgrind's files `counts`.1, `counts`.2, ..: one for each half, in order.
+pub fn lines(counts: &str, inputs: &Inputs, timed: bool) -> Result<Vec<Line>, String> {
+    let mut lines = Vec::new();
+    let mut file = 0;
+    for case in cases() {
+        let mut line = Line {
+            name: case.name,
+            instructions: [None; 2],
+            nanoseconds: [None; 2],
+        };
+        for (side, half) in halves(&case).into_iter().enumerate() {
+            file += 1;
+            let cost = Counts::read(&format!("{}.{}", counts, file))?.cost(&half.cost);
+            let cost = cost.map_err(|error| format!("{}: {}", case.name, error))?;
+            line.instructions[side] = Some(cost as f64 / f64::from((half.run)(inputs)));
+            if timed && half.timed {
+                line.nanoseconds[side] = Some(nanoseconds(half, inputs));
+            }
+        }
+        lines.push(line);
+    }
+    Ok(lines)
+}
+
+/// Nanoseconds a call: the best of some passes of at least a millisecond.
+fn nanoseconds(half: &Half, inputs: &Inputs) -> f64 {
+    let pass = || {
+        let start = Instant::now();
+        let mut calls = 0;
+        while start.elapsed().as_millis() < 1 {
+            calls += (0..4).map(|_| measured(half.run, inputs)).sum::<u32>();
+        }
+        start.elapsed().as_nanos() as f64 / f64::from(calls)
+    };
+    (0..40).map(|_| pass()).fold(f64::INFINITY, f64::min)
+}
+
+fn ratio([ours, theirs]: [Option<f64>; 2]) -> Option<f64> {
+    Some(ours? / theirs?)
+}
+
+fn shown(number: Option<f64>, places: usize) -> String {
+    number.map_or("–".to_string(), |number| format!("{:.*}", places, number))
+}
+
+fn columns(pair: [Option<f64>; 2]) -> String {
+    format!(
+        "{} | {} | {}",
+        shown(pair[0], 0),
+        shown(pair[1], 0),
+        shown(ratio(pair), 2)
+    )
+}
+
+pub fn print(lines: &[Line]) {
+    println!("{}\n|---|---:|---:|---:|---:|---:|---:|", HEAD);
+    for line in lines {
+        println!(
+            "| {} | {} | {} |",
+            line.name,
+            columns(line.instructions),
+            columns(line.nanoseconds)
+        );
+    }
+}
+
+/// A line of a document's table, cell by cell.
+fn listed<'a>(document: &'a str, name: &str) -> Option<Vec<&'a str>> {
+    let cells = |line: &'a str| line.split('|').map(str::trim).collect::<Vec<_>>();
+    let mut lines = document.lines().map(cells);
+    lines.find(|cells| cells.len() == 9 && cells[1] == name)
+}
+
+/// What of a line is held to the document: the cell, the places that it shows, and the number.
+pub type Held = (usize, usize, fn(&Line) -> Option<f64>);
+pub const RATIO: Held = (4, 2, |line| ratio(line.instructions));
+pub const OURS: Held = (2, 0, |line| line.instructions[0]);
+
+/// Whether every line is within 2 % of the document's; half of the last place that is shown is allowed too.
+pub fn agrees(lines: &[Line], document: &str, (cell, places, number): Held) -> bool {
+    let half = 0.5 / 10f64.powi(places as i32);
+    let differs = |line: &&Line| {
+        let row = listed(document, line.name);
+        let then = row.map_or("nothing", |row| row[cell]);
+        let now = number(line);
+        let near = match (now, then.parse::<f64>()) {
+            (Some(now), Ok(then)) => (now - then).abs() <= 0.02 * then + half,
+            (None, _) => then == "–",
+            _ => false,
+        };
+        if !near {
+            let now = shown(now, places);
+            eprintln!("bench: {}: {} now, and {} in the document", line.name, now, then);
+        }
+        !near
+    };
+    lines.iter().filter(differs).count() == 0
+}

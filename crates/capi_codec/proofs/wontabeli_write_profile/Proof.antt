@@ -1,0 +1,74 @@
+use borrow.Author.Tests.{not-true, not-false}
+use mathlib.Core.Path.{refl}
+use borrow.Author.Needs.{needs}
+use Rattle.capi_codec.specs.Codec.{profileFrom}
+use Rattle.profile.specs.Profile.{readProfile, profileRead}
+use Rattle.lent.specs.Giving.{short, refused, passed-on}
+use Rattle.answer.specs.Answer.{told}
+use Rattle.capi_codec.proofs.Making.{misfit, size, unread, reads}
+use Rattle.capi_codec.proofs.wontabeli_write_profile.Statement.{statement}
+use Rattle.capi_codec.proofs.wontabeli_write_profile.Tie as tie
+
+returns : tie.Need-returns
+returns c = short _ _ _ (c .if1 .taken)
+
+slice-aggregate-store : tie.Need-slice-aggregate-store
+slice-aggregate-store c = search needs
+
+slice-aggregate-store-2 : tie.Need-slice-aggregate-store-2
+slice-aggregate-store-2 c = search needs
+
+store-requires : tie.Need-store-requires
+store-requires c κs = search needs
+
+returns-2 : tie.Need-returns-2
+unfolding profileFrom
+returns-2 c = refused _ _ _ _ (c .before .before .before .before .before .if1 .left) (misfit readProfile 30 10 _ _ _ _ _ (c .before .before .store .ensures) (not-true _ (c .if2 .taken)))
+
+slice-aggregate-read-profile : tie.Need-slice-aggregate-read-profile
+slice-aggregate-read-profile c = search needs
+
+read-profile-requires : tie.Need-read-profile-requires
+read-profile-requires c κs = search needs
+
+enum-told : tie.Need-enum-told
+enum-told c = search needs
+
+enum-told-2 : tie.Need-enum-told-2
+enum-told-2 c = search needs
+
+slice-aggregate-give-bytes : tie.Need-slice-aggregate-give-bytes
+slice-aggregate-give-bytes c = search needs
+
+give-bytes-requires : tie.Need-give-bytes-requires
+give-bytes-requires c κs = search needs
+
+returns-3 : tie.Need-returns-3
+unfolding profileFrom
+returns-3 c = refused _ _ _ _ (c .before .before .before .before .before .before .before .before .before .if1 .left) (unread readProfile 30 10 _ _ _ _ _ (c .before .before .before .before .before .before .store .ensures) refl refl (not-false _ (c .before .before .before .before .if2 .left)) _ (told profileRead (c .before .before .read-profile .ensures) (c .enum-told .given .1)))
+
+same-length : tie.Need-same-length
+same-length c = search needs
+
+returns-4 : tie.Need-returns-4
+unfolding profileFrom
+returns-4 c = passed-on _ _ _ _ _ _ (size readProfile 30 10 _ _ _ _ _ (c .before .before .before .before .before .before .before .before .before .before .before .store .ensures) refl refl (not-false _ (c .before .before .before .before .before .before .before .before .before .if2 .left))) (reads readProfile 30 10 _ _ _ _ _ (c .before .before .before .before .before .before .before .before .before .before .before .store .ensures) refl refl (not-false _ (c .before .before .before .before .before .before .before .before .before .if2 .left)) _ (told profileRead (c .before .before .before .before .before .before .before .read-profile .ensures) (c .before .before .before .before .before .enum-told2 .given .1))) (c .before .before .give-bytes .ensures)
+
+pub wontabeli-write-profile-spec : {M : Type 1} → statement M
+wontabeli-write-profile-spec =
+    tie.close
+    (tie.spec
+    returns
+    slice-aggregate-store
+    slice-aggregate-store-2
+    store-requires
+    returns-2
+    slice-aggregate-read-profile
+    read-profile-requires
+    enum-told
+    enum-told-2
+    slice-aggregate-give-bytes
+    give-bytes-requires
+    returns-3
+    same-length
+    returns-4)

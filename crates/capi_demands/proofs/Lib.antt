@@ -1,0 +1,6 @@
+pub mod Bits
+pub mod Again
+pub mod Lists
+pub mod Stays
+pub mod Going
+pub mod Hosted

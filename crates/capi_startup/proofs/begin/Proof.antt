@@ -1,0 +1,55 @@
+use borrow.Author.Needs.{needs}
+use Rattle.answer.specs.Answer.{told}
+use Rattle.image.specs.Image.{imageRead}
+use Rattle.profile.specs.Profile.{profileRead}
+use Rattle.capi_startup.specs.Calls.{startRead}
+use Rattle.capi_startup.proofs.begin.Statement.{statement}
+use Rattle.capi_startup.proofs.begin.Tie as tie
+
+read-profile-requires : tie.Need-read-profile-requires
+read-profile-requires c κs = search needs
+
+enum-known-n : tie.Need-enum-known-n
+enum-known-n c = search needs
+
+enum-known-config : tie.Need-enum-known-config
+enum-known-config c = search needs
+
+read-image-requires : tie.Need-read-image-requires
+read-image-requires c κs = search needs
+
+enum-known-n-2 : tie.Need-enum-known-n-2
+enum-known-n-2 c = search needs
+
+enum-known-fields : tie.Need-enum-known-fields
+enum-known-fields c = search needs
+
+start-requires : tie.Need-start-requires
+start-requires c κs = search needs
+
+returns : tie.Need-returns
+unfolding startRead
+returns c = simp (told profileRead (c .before .before .before .read-profile .ensures) (c .before .n .given .1))
+
+returns-2 : tie.Need-returns-2
+unfolding startRead
+returns-2 c = simp (told profileRead (c .before .before .before .before .before .before .before .read-profile .ensures) (c .before .before .before .before .before .config .given .1), told imageRead (c .before .before .before .read-image .ensures) (c .before .n2 .given .1))
+
+returns-3 : tie.Need-returns-3
+unfolding startRead
+returns-3 c = simp (told profileRead (c .before .before .before .before .before .before .before .before .read-profile .ensures) (c .before .before .before .before .before .before .config .given .1), told imageRead (c .before .before .before .before .read-image .ensures) (c .before .before .fields .given .1)) (c .start .ensures)
+
+pub begin-spec : {M : Type 1} → statement M
+begin-spec =
+    tie.close
+    (tie.spec
+    read-profile-requires
+    enum-known-n
+    enum-known-config
+    read-image-requires
+    enum-known-n-2
+    enum-known-fields
+    start-requires
+    returns
+    returns-2
+    returns-3)

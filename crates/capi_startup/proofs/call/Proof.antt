@@ -1,0 +1,49 @@
+use borrow.Author.Needs.{needs}
+use Rattle.answer.specs.Answer.{told}
+use Rattle.startup.specs.Call.{begun}
+use Rattle.capi_startup.specs.Calls.{callOf}
+use Rattle.capi_startup.proofs.Places.{refused-28, called-on}
+use Rattle.capi_startup.proofs.call.Statement.{statement}
+use Rattle.capi_startup.proofs.call.Tie as tie
+
+kept-requires : tie.Need-kept-requires
+kept-requires c κs = search needs
+
+enum-known-n : tie.Need-enum-known-n
+enum-known-n c = search needs
+
+enum-known-startup : tie.Need-enum-known-startup
+enum-known-startup c = search needs
+
+reading-requires : tie.Need-reading-requires
+reading-requires c κs = search needs
+
+step-requires : tie.Need-step-requires
+step-requires c κs = search needs
+
+number-requires : tie.Need-number-requires
+number-requires c κs = search needs
+
+returns : tie.Need-returns
+returns c = refused-28 (c .before .before .before .before .before .before .before .before .before .args .place .now) (c .before .before .before .before .before .before .before .before .before .args .w) _ (told begun (c .before .before .before .before .before .before .before .kept .ensures) (c .before .before .before .before .before .startup .given .1)) _ (c .before .before .before .reading .ensures) _ (c .before .before .step .ensures) _ (c .before .number .ensures) (c .if1 .taken)
+
+returns-2 : tie.Need-returns-2
+unfolding callOf
+returns-2 c = simp (told begun (c .before .before .before .kept .ensures) (c .before .n .given .1))
+
+returns-3 : tie.Need-returns-3
+returns-3 c = called-on (c .before .before .before .before .before .before .before .before .before .args .place .now) (c .before .before .before .before .before .before .before .before .before .args .w) _ (told begun (c .before .before .before .before .before .before .before .kept .ensures) (c .before .before .before .before .before .startup .given .1)) _ (c .before .before .before .reading .ensures) _ (c .before .before .step .ensures) _ (c .before .number .ensures) (c .if1 .left)
+
+pub call-spec : {M : Type 1} → statement M
+call-spec =
+    tie.close
+    (tie.spec
+    kept-requires
+    enum-known-n
+    enum-known-startup
+    reading-requires
+    step-requires
+    number-requires
+    returns
+    returns-2
+    returns-3)

@@ -1,0 +1,37 @@
+use borrow.Author.Needs.{needs}
+use Rattle.capi_startup.specs.Calls.{callsRead}
+use Rattle.profile.specs.Profile.{profileRead}
+use Rattle.answer.specs.Answer.{told}
+use Rattle.capi_startup.proofs.calls.Statement.{statement}
+use Rattle.capi_startup.proofs.calls.Tie as tie
+
+read-profile-requires : tie.Need-read-profile-requires
+read-profile-requires c κs = search needs
+
+enum-known-n : tie.Need-enum-known-n
+enum-known-n c = search needs
+
+enum-known-config : tie.Need-enum-known-config
+enum-known-config c = search needs
+
+call-bound-requires : tie.Need-call-bound-requires
+call-bound-requires c κs = search needs
+
+returns : tie.Need-returns
+unfolding callsRead
+returns c = simp (told profileRead (c .before .before .before .read-profile .ensures) (c .before .n .given .1))
+
+returns-2 : tie.Need-returns-2
+unfolding callsRead
+returns-2 c = simp (told profileRead (c .before .before .before .before .read-profile .ensures) (c .before .before .config .given .1), (c .call-bound .ensures))
+
+pub calls-spec : {M : Type 1} → statement M
+calls-spec =
+    tie.close
+    (tie.spec
+    read-profile-requires
+    enum-known-n
+    enum-known-config
+    call-bound-requires
+    returns
+    returns-2)

@@ -1,0 +1,76 @@
+use mathlib.Core.Path.{sym, ap}
+use Prim.Native.Nat.{_≤_}
+use native.Mathlib.Omega.{arith}
+use borrow.Author.Needs.{needs}
+use lib.ListN.{length}
+use lib.Seq.{length-take-le}
+use Rattle.answer.specs.Answer.{told, gives}
+use Rattle.image.specs.Image.{imageRead}
+use Rattle.profile.specs.Profile.{profileRead}
+use Rattle.capi_startup.specs.Kept.{keptOf}
+use Rattle.capi_startup.proofs.kept.kept.Statement.{statement}
+use Rattle.capi_startup.proofs.kept.kept.Tie as tie
+
+slice-aggregate-read-profile : tie.Need-slice-aggregate-read-profile
+slice-aggregate-read-profile c = let h : 10 ≤ length (c .before .before .args .place .now) = omega arith in sym (length-take-le 10 (c .before .before .args .place .now) h)
+
+read-profile-requires : tie.Need-read-profile-requires
+read-profile-requires c κs = search needs
+
+enum-known-n : tie.Need-enum-known-n
+enum-known-n c = search needs
+
+enum-known-config : tie.Need-enum-known-config
+enum-known-config c = search needs
+
+sub-read-image : tie.Need-sub-read-image
+sub-read-image c = search needs
+
+part-read-image-start : tie.Need-part-read-image-start
+part-read-image-start c = search needs
+
+part-read-image-end : tie.Need-part-read-image-end
+part-read-image-end c = search needs
+
+read-image-requires : tie.Need-read-image-requires
+read-image-requires c κs = search needs
+
+enum-known-n-2 : tie.Need-enum-known-n-2
+enum-known-n-2 c = search needs
+
+enum-known-fields : tie.Need-enum-known-fields
+enum-known-fields c = search needs
+
+standing-requires : tie.Need-standing-requires
+standing-requires c κs = search needs
+
+returns : tie.Need-returns
+unfolding keptOf
+returns c = simp (told profileRead (c .before .before .before .read-profile .ensures) (c .before .n .given .1))
+
+returns-2 : tie.Need-returns-2
+unfolding keptOf
+returns-2 c = simp (told profileRead (c .before .before .before .before .before .before .before .before .read-profile .ensures) (c .before .before .before .before .before .before .config .given .1), told imageRead (c .before .before .before .read-image .ensures) (c .before .n2 .given .1))
+
+returns-3 : tie.Need-returns-3
+unfolding keptOf
+returns-3 c = simp (told profileRead (c .before .before .before .before .before .before .before .before .before .read-profile .ensures) (c .before .before .before .before .before .before .before .config .given .1), told imageRead (c .before .before .before .before .read-image .ensures) (c .before .before .fields .given .1)) (ap gives (c .standing .ensures))
+
+pub kept-spec : {M : Type 1} → statement M
+kept-spec =
+    tie.close
+    (tie.spec
+    slice-aggregate-read-profile
+    read-profile-requires
+    enum-known-n
+    enum-known-config
+    sub-read-image
+    part-read-image-start
+    part-read-image-end
+    read-image-requires
+    enum-known-n-2
+    enum-known-fields
+    standing-requires
+    returns
+    returns-2
+    returns-3)

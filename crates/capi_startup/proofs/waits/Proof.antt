@@ -1,0 +1,37 @@
+use borrow.Author.Needs.{needs}
+use Rattle.capi_startup.specs.Calls.{waitsRead}
+use Rattle.profile.specs.Profile.{profileRead}
+use Rattle.answer.specs.Answer.{told}
+use Rattle.capi_startup.proofs.waits.Statement.{statement}
+use Rattle.capi_startup.proofs.waits.Tie as tie
+
+read-profile-requires : tie.Need-read-profile-requires
+read-profile-requires c κs = search needs
+
+enum-known-n : tie.Need-enum-known-n
+enum-known-n c = search needs
+
+enum-known-config : tie.Need-enum-known-config
+enum-known-config c = search needs
+
+waits-owed-requires : tie.Need-waits-owed-requires
+waits-owed-requires c κs = search needs
+
+returns : tie.Need-returns
+unfolding waitsRead
+returns c = simp (told profileRead (c .before .before .before .read-profile .ensures) (c .before .n .given .1))
+
+returns-2 : tie.Need-returns-2
+unfolding waitsRead
+returns-2 c = simp (told profileRead (c .before .before .before .before .read-profile .ensures) (c .before .before .config .given .1), (c .waits-owed .ensures))
+
+pub waits-spec : {M : Type 1} → statement M
+waits-spec =
+    tie.close
+    (tie.spec
+    read-profile-requires
+    enum-known-n
+    enum-known-config
+    waits-owed-requires
+    returns
+    returns-2)

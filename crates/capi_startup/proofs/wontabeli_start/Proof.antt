@@ -1,0 +1,46 @@
+use borrow.Author.Needs.{needs}
+use Rattle.answer.specs.Answer.{told}
+use Rattle.startup.specs.Call.{begun}
+use Rattle.capi_startup.specs.Calls.{startBytes}
+use Rattle.lent.specs.Giving.{short, refused, carried}
+use Rattle.capi_startup.proofs.wontabeli_start.Statement.{statement}
+use Rattle.capi_startup.proofs.wontabeli_start.Tie as tie
+
+returns : tie.Need-returns
+returns c = short 32 (startBytes (c .before .before .before .before .args .p .now) (c .before .before .before .before .args .i .now)) (c .before .before .before .before .args .place .now) (c .if1 .taken)
+
+begin-requires : tie.Need-begin-requires
+begin-requires c κs = search needs
+
+enum-known-n : tie.Need-enum-known-n
+enum-known-n c = search needs
+
+enum-known-startup : tie.Need-enum-known-startup
+enum-known-startup c = search needs
+
+store-requires : tie.Need-store-requires
+store-requires c κs = search needs
+
+returns-2 : tie.Need-returns-2
+unfolding startBytes
+returns-2 c = refused 32 (startBytes (c .before .before .before .before .before .before .before .before .args .p .now) (c .before .before .before .before .before .before .before .before .args .i .now)) (c .before .before .before .before .before .before .before .before .args .place .now) _ (c .before .before .before .before .if1 .left) (rw (told begun (c .before .before .before .begin .ensures) (c .before .n .given .1)))
+
+same-length : tie.Need-same-length
+same-length c = search needs
+
+returns-3 : tie.Need-returns-3
+unfolding startBytes
+returns-3 c = carried 32 (startBytes (c .before .before .before .before .before .before .before .before .before .before .before .before .args .p .now) (c .before .before .before .before .before .before .before .before .before .before .before .before .args .i .now)) (c .before .before .before .before .before .before .before .before .before .before .before .before .args .place .now) _ _ _ (c .before .before .store .ensures) (rw (told begun (c .before .before .before .before .before .before .before .begin .ensures) (c .before .before .before .before .before .startup .given .1)))
+
+pub wontabeli-start-spec : {M : Type 1} → statement M
+wontabeli-start-spec =
+    tie.close
+    (tie.spec
+    returns
+    begin-requires
+    enum-known-n
+    enum-known-startup
+    store-requires
+    returns-2
+    same-length
+    returns-3)

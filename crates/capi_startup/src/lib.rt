@@ -1,0 +1,215 @@
+// The V4x7 startup for C and Rust: a startup that the host keeps in 32 lent bytes, the keys of step 19, and a profile's waits and calls.
+mod kept;
+
+ghost use mathlib.Core.Path.{_≡_};
+ghost use Prim.Native.Nat.{_≤_};
+ghost use lib.ListN.{length};
+ghost use Rattle.answer.specs.Said.{replied};
+ghost use Rattle.startup.specs.Call.{begun};
+ghost use Rattle.lent.specs.Given.{Given, GivenOne, twofold, twoWords};
+ghost use Rattle.capi_startup.specs.Calls.{readingOf, startRead, startBytes, callOf, calledOf, stepBytes, keyRead, waitsRead, callsRead};
+use answer::Reply;
+use image::ReadImage;
+use image::Seen;
+use kept::kept;
+use kept::number;
+use kept::store;
+use lent::Twofold;
+use profile::ReadProfile;
+use startup::FlashKey;
+use startup::Reading;
+use startup::Report;
+use startup::Started;
+use startup::Startup;
+use startup::Stepped;
+
+// A place's bytes. Its first ten are the profile.
+pub const PLACE_SIZE: usize = 32;
+// The image, eight bytes: after a call the host writes its fields to the chip.
+pub const PLACE_IMAGE: usize = 10;
+// The step whose turn it is.
+pub const PLACE_STEP: usize = 18;
+// The unmet readings of its wait, four bytes.
+pub const PLACE_UNMET: usize = 19;
+// All readings used, four bytes.
+pub const PLACE_USED: usize = 23;
+// 0 going; 1 over and running; 21, 22 or 23 over by that refusal.
+pub const PLACE_PHASE: usize = 27;
+// How the last call went.
+pub const PLACE_WENT: usize = 28;
+// The last call's refusal: 0, 21, 22 or 23.
+pub const PLACE_NUMBER: usize = 29;
+// The step that the last call names; 0 before the first call and with 23.
+pub const PLACE_NAMED: usize = 30;
+
+// How a call went: the step is worked; at 19 the host writes the keys.
+pub const WORKED: u8 = 0;
+// The reading did not meet the step's wait.
+pub const WAITING: u8 = 1;
+// Over: the clocks run as the check promised.
+pub const RUNNING: u8 = 2;
+// Over, by the refusal in the place.
+pub const FAILED: u8 = 3;
+
+// HSI is ready. A reading is the sum of these.
+pub const HSIRDY: u16 = 1;
+// HSE is ready.
+pub const HSERDY: u16 = 2;
+// The main PLL is ready.
+pub const PLLRDY: u16 = 4;
+// The USBHS PLL is ready.
+pub const USBHS_PLLRDY: u16 = 8;
+// The ETH PLL is ready.
+pub const ETH_PLLRDY: u16 = 16;
+// SWS, two bits: its value times this.
+pub const SWS: u16 = 32;
+// SCKMOD, two bits: its value times this.
+pub const SCKMOD: u16 = 128;
+
+// The register of the first two keys, KEYR.
+pub const KEYR: u32 = 0;
+// The register of the other two, MODEKEYR.
+pub const MODEKEYR: u32 = 1;
+
+// What a call on a place gives: the startup with its report, or a refusal number.
+enum Called {
+    Is(Stepped),
+    Refused(u8),
+}
+
+fn reading(w: u16) -> Reading
+    ensures { λ r. ⌜ r ≡ readingOf w ⌝ }
+{
+    Reading {
+        seen: Seen {
+            hsirdy: w / HSIRDY % 2 == 1,
+            hserdy: w / HSERDY % 2 == 1,
+            pllrdy: w / PLLRDY % 2 == 1,
+            usbhs_pllrdy: w / USBHS_PLLRDY % 2 == 1,
+            eth_pllrdy: w / ETH_PLLRDY % 2 == 1,
+            sws: (w / SWS % 4) as u8,
+        },
+        sckmod: (w / SCKMOD % 4) as u8,
+    }
+}
+
+fn begin(p: &[u8], i: &[u8]) -> Started
+    ensures { λ r. ⌜ begun r ≡ startRead (now (p .entry)) (now (i .entry)) ⌝ }
+{
+    match profile::read_profile(p) {
+        ReadProfile::Refused(n) => Started::NotStarted(n),
+        ReadProfile::Profile(config) => match image::read_image(i) {
+            ReadImage::Refused(n) => Started::NotStarted(n),
+            ReadImage::Image(fields) => Startup::start(config, fields),
+        },
+    }
+}
+
+// Starts a startup with a profile of ten bytes and the image of the registers as they are, eight bytes, and keeps it in the place's first 32 bytes.
+// Refused by 32, 29, 30, 31, then by the check's 1 to 16.
+#[no_mangle]
+pub extern "C" fn wontabeli_start(p: &[u8], i: &[u8], place: &mut [u8]) -> u8
+    ensures { λ r. ⌜ Given 32 (startBytes (now (p .entry)) (now (i .entry))) (now (place .entry)) (now (place .exit)) r ⌝ }
+{
+    if place.len() < PLACE_SIZE {
+        return answer::OUTPUT_TOO_SHORT;
+    }
+    match begin(p, i) {
+        Started::NotStarted(n) => n,
+        Started::Begun(startup) => {
+            let report = Report::Worked { step: 0, used: 0 };
+            store(Stepped { startup, report }, place)
+        }
+    }
+}
+
+fn call(place: &[u8], w: u16) -> Called
+    requires { ⌜ 32 ≤ length (now place) ⌝ }
+    ensures { λ r. ⌜ calledOf r ≡ callOf (now (place .entry)) w ⌝ }
+{
+    match kept(place) {
+        Started::NotStarted(n) => Called::Refused(n),
+        Started::Begun(startup) => {
+            let x = startup.step(reading(w));
+            let report = x.report;
+            if number(report) == answer::CODE_NOT_ALLOWED {
+                return Called::Refused(answer::CODE_NOT_ALLOWED);
+            }
+            Called::Is(x)
+        }
+    }
+}
+
+// One call of the startup that the place holds: one step's work done or one reading used. The place then says how it went; its image is what the
+// host writes to the chip. Refused by 32; by 30, 31 or 28 where no starting leads to these bytes.
+#[no_mangle]
+pub extern "C" fn wontabeli_step(place: &mut [u8], w: u16) -> u8
+    ensures { λ r. ⌜ Given 32 (stepBytes (now (place .entry)) w) (now (place .entry)) (now (place .exit)) r ⌝ }
+{
+    if place.len() < PLACE_SIZE {
+        return answer::OUTPUT_TOO_SHORT;
+    }
+    match call(place, w) {
+        Called::Refused(n) => n,
+        Called::Is(x) => store(x, place),
+    }
+}
+
+fn key(position: u8) -> Twofold
+    ensures { λ r. ⌜ twofold r ≡ keyRead position ⌝ }
+{
+    match startup::flash_key(position) {
+        FlashKey::Keyr(key) => Twofold::Are {
+            first: KEYR,
+            second: key,
+        },
+        FlashKey::ModeKeyr(key) => Twofold::Are {
+            first: MODEKEYR,
+            second: key,
+        },
+        FlashKey::NoKey => Twofold::Refused(answer::CODE_NOT_ALLOWED),
+    }
+}
+
+// A key that the host writes at step 19, in their order at positions 0 to 3. Gives two words: its register, 0 KEYR or 1 MODEKEYR, and the key.
+// Refused by 32, then by 28: a position above 3.
+#[no_mangle]
+pub extern "C" fn wontabeli_flash_key(position: u8, out: &mut [u32]) -> u8
+    ensures { λ r. ⌜ Given 2 (twoWords (keyRead position)) (now (out .entry)) (now (out .exit)) r ⌝ }
+{
+    lent::give_two(key(position), out)
+}
+
+fn waits(p: &[u8]) -> Reply
+    ensures { λ r. ⌜ replied r ≡ waitsRead (now (p .entry)) ⌝ }
+{
+    match profile::read_profile(p) {
+        ReadProfile::Refused(n) => Reply::Refused(n),
+        ReadProfile::Profile(config) => Reply::Is(startup::waits_owed(config)),
+    }
+}
+
+// How many waits the startup of a profile has. Refused by 29, 30.
+#[no_mangle]
+pub extern "C" fn wontabeli_waits_owed(p: &[u8], out: &mut u32) -> u8
+    ensures { λ r. ⌜ GivenOne (waitsRead (now (p .entry))) (now (out .entry)) (now (out .exit)) r ⌝ }
+{
+    lent::give_one(waits(p), out)
+}
+
+fn calls(p: &[u8]) -> Reply
+    ensures { λ r. ⌜ replied r ≡ callsRead (now (p .entry)) ⌝ }
+{
+    match profile::read_profile(p) {
+        ReadProfile::Refused(n) => Reply::Refused(n),
+        ReadProfile::Profile(config) => Reply::Is(startup::call_bound(config)),
+    }
+}
+
+// The startup of a profile is over within so many calls. Refused by 29, 30.
+#[no_mangle]
+pub extern "C" fn wontabeli_call_bound(p: &[u8], out: &mut u32) -> u8
+    ensures { λ r. ⌜ GivenOne (callsRead (now (p .entry))) (now (out .entry)) (now (out .exit)) r ⌝ }
+{
+    lent::give_one(calls(p), out)
+}

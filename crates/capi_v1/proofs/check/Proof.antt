@@ -1,0 +1,58 @@
+use borrow.Author.Tests.{lt-ltb, le-ltb}
+use borrow.Author.Needs.{needs}
+use Rattle.capi_v1.specs.Calls.{takenConfig, checkRead}
+use Rattle.answer.specs.Answer.{told}
+use Rattle.capi_v1.proofs.check.Statement.{statement}
+use Rattle.capi_v1.proofs.check.Tie as tie
+
+returns : tie.Need-returns
+unfolding checkRead
+returns c = simp (lt-ltb _ _ (c .if1 .taken))
+
+take-config-requires : tie.Need-take-config-requires
+take-config-requires c κs = search needs
+
+enum-known-n : tie.Need-enum-known-n
+enum-known-n c = search needs
+
+enum-known-c : tie.Need-enum-known-c
+enum-known-c c = search needs
+
+chip-requires : tie.Need-chip-requires
+chip-requires c κs = search needs
+
+check-requires : tie.Need-check-requires
+check-requires c κs = search needs
+
+returns-2 : tie.Need-returns-2
+unfolding checkRead
+returns-2 c =
+    let if1 = c .before .before .before .before .if1 in
+    let take-config = c .before .before .before .take-config in
+    simp (le-ltb _ _ (if1 .left), told takenConfig (take-config .ensures) (c .before .n .given .1))
+
+returns-3 : tie.Need-returns-3
+unfolding checkRead
+returns-3 c =
+    let if1 = c .before .before .before .before .before .before .if1 in
+    let take-config = c .before .before .before .before .before .take-config in
+    let config = c .before .before .before .c in
+    simp (
+      le-ltb _ _ (if1 .left),
+      told takenConfig (take-config .ensures) (config .given .1),
+      c .check .ensures,
+      c .before .chip .ensures,
+    )
+
+pub check-spec : {M : Type 1} → statement M
+check-spec =
+    tie.close
+    (tie.spec
+    returns
+    take-config-requires
+    enum-known-n
+    enum-known-c
+    chip-requires
+    check-requires
+    returns-2
+    returns-3)

@@ -1,0 +1,64 @@
+use borrow.Author.Tests.{lt-ltb, le-ltb}
+use borrow.Author.Needs.{needs}
+use Rattle.capi_v1.specs.Calls.{takenFields, decodeRead}
+use Rattle.answer.specs.Answer.{told}
+use Rattle.capi_v1.proofs.decode.Statement.{statement}
+use Rattle.capi_v1.proofs.decode.Tie as tie
+
+returns : tie.Need-returns
+unfolding decodeRead
+returns c = simp (lt-ltb _ _ (c .if1 .taken))
+
+take-fields-requires : tie.Need-take-fields-requires
+take-fields-requires c κs = search needs
+
+enum-known-n : tie.Need-enum-known-n
+enum-known-n c = search needs
+
+enum-known-f : tie.Need-enum-known-f
+enum-known-f c = search needs
+
+chip-requires : tie.Need-chip-requires
+chip-requires c κs = search needs
+
+hse-number-requires : tie.Need-hse-number-requires
+hse-number-requires c κs = search needs
+
+decode-requires : tie.Need-decode-requires
+decode-requires c κs = search needs
+
+returns-2 : tie.Need-returns-2
+unfolding decodeRead
+returns-2 c =
+    let if1 = c .before .before .before .before .if1 in
+    let take-fields = c .before .before .before .take-fields in
+    simp (le-ltb _ _ (if1 .left), told takenFields (take-fields .ensures) (c .before .n .given .1))
+
+returns-3 : tie.Need-returns-3
+unfolding decodeRead
+returns-3 c =
+    let if1 = c .before .before .before .before .before .before .before .if1 in
+    let take-fields = c .before .before .before .before .before .before .take-fields in
+    let fields = c .before .before .before .before .f in
+    let chip = c .before .before .chip in
+    simp (
+      le-ltb _ _ (if1 .left),
+      told takenFields (take-fields .ensures) (fields .given .1),
+      c .decode .ensures,
+      chip .ensures,
+      c .before .hse-number .ensures,
+    )
+
+pub decode-spec : {M : Type 1} → statement M
+decode-spec =
+    tie.close
+    (tie.spec
+    returns
+    take-fields-requires
+    enum-known-n
+    enum-known-f
+    chip-requires
+    hse-number-requires
+    decode-requires
+    returns-2
+    returns-3)

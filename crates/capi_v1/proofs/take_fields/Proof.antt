@@ -1,0 +1,31 @@
+use borrow.Author.Tests.{eq-eqb, ne-eqb}
+use mathlib.Core.Path.{sym}
+use borrow.Author.Needs.{needs}
+use Rattle.capi_v1.specs.Calls.{readFields}
+use Rattle.capi_v1.proofs.take_fields.Statement.{statement}
+use Rattle.capi_v1.proofs.take_fields.Tie as tie
+
+returns : tie.Need-returns
+unfolding readFields
+returns c = simp (ne-eqb _ _ (c .if1 .taken))
+
+fields-allowed-requires : tie.Need-fields-allowed-requires
+fields-allowed-requires c κs = search needs
+
+returns-2 : tie.Need-returns-2
+unfolding readFields
+returns-2 c = simp (eq-eqb _ _ (c .before .before .if1 .left), sym (c .before .fields-allowed .ensures), c .if2 .taken)
+
+fields-in-requires : tie.Need-fields-in-requires
+fields-in-requires c κs = search needs
+
+returns-3 : tie.Need-returns-3
+unfolding readFields
+returns-3 c =
+    let if1 = c .before .before .before .if1 in
+    let fields-allowed = c .before .before .fields-allowed in
+    simp (eq-eqb _ _ (if1 .left), sym (fields-allowed .ensures), c .before .if2 .left, sym (c .fields-in .ensures))
+
+pub take-fields-spec : {M : Type 1} → statement M
+take-fields-spec =
+    tie.close (tie.spec returns fields-allowed-requires returns-2 fields-in-requires returns-3)

@@ -1,0 +1,117 @@
+-- The calls of CH32V1 and CH32L1 on bytes.
+-- Assumes nothing.
+use Prim.Native.Nat.{ℕ}
+use mathlib.Core.Bool.{Bool, cond, not, _&&_, _||_}
+use mathlib.Core.List.{List, [], _∷_}
+use lib.Dec.{eqb, ltb}
+use lib.ListN.{length}
+use Rattle.answer.specs.Answer.{Answer, gives, refuses, refuse, _>>=_, _>>_}
+use Rattle.layout.specs.Bits.{bit}
+use Rattle.tree.specs.declared.Clocks.{Clocks}
+use Rattle.pll32.specs.Pll.{sourceOf}
+use Rattle.v1.specs.declared.Chip.{Chip}
+use Rattle.v1.specs.declared.Chip.the-variants as chip
+use Rattle.v1.specs.declared.PllPreDiv.the-variants as prediv
+use Rattle.v1.specs.declared.Pll.{Pll}
+use Rattle.v1.specs.declared.Pll.the-variants as pll
+use Rattle.v1.specs.declared.Config.{Config}
+use Rattle.v1.specs.declared.Fields.{Fields}
+use Rattle.v1.specs.V1.{checkOf, decodeOf, fieldsOf}
+use Rattle.capi_bytes.specs.Bytes.{at, yes, yesOrNo, frequencyOf, hseOf, hseAllowed, hseNumber}
+use Rattle.capi_v1.specs.declared.TakenConfig.{TakenConfig}
+use Rattle.capi_v1.specs.declared.TakenConfig.the-variants as config
+use Rattle.capi_v1.specs.declared.TakenFields.{TakenFields}
+use Rattle.capi_v1.specs.declared.TakenFields.the-variants as fields
+
+-- What the answers say.
+abbrev pub takenConfig : TakenConfig → Answer Config
+takenConfig (config.Is c) = gives c
+takenConfig (config.Refused n) = refuses n
+
+abbrev pub takenFields : TakenFields → Answer Fields
+takenFields (fields.Is f) = gives f
+takenFields (fields.Refused n) = refuses n
+
+-- the part: 0 V1, 1 L1
+abbrev pub chipOf : ℕ → Chip
+chipOf part = cond (eqb part 1) chip.L1 chip.V1
+
+abbrev pub pllOf : Bool → Bool → ℕ → Pll
+pllOf present halved mul = cond present (cond halved (pll.Present prediv.Div2 mul) (pll.Present prediv.Div1 mul)) pll.Absent
+
+-- A configuration of 14 bytes: 0 HSE present, 1 bypass, 2 to 5 its frequency, 6 the system clock, 7 PLL from HSE, 8 PLL present, 9 its input halved,
+-- 10 its multiplier's code, 11 AHB, 12 APB1, 13 APB2
+unfoldable pub configOf : List ℕ → Config
+configOf l = record {
+  hse = hseOf (yes (at l 0)) (yes (at l 1)) (frequencyOf l);
+  sys = at l 6;
+  «pll_src» = sourceOf (yes (at l 7));
+  pll = pllOf (yes (at l 8)) (yes (at l 9)) (at l 10);
+  «ahb_pre» = at l 11;
+  «apb1_pre» = at l 12;
+  «apb2_pre» = at l 13;
+}
+
+-- Yes or no where that is asked, and an absent part's bytes zero: so a configuration has one record
+unfoldable pub configAllowed : List ℕ → Bool
+configAllowed l =
+    hseAllowed (at l 0) (at l 1) (frequencyOf l) && yesOrNo (at l 7)
+    && (yesOrNo (at l 8) && yesOrNo (at l 9) && (yes (at l 8) || eqb (at l 9) 0 && eqb (at l 10) 0))
+
+unfoldable pub readConfig : List ℕ → Answer Config
+readConfig l = do
+  refuse 28 (not (eqb (length l) 14))
+  refuse 28 (not (configAllowed l))
+  gives (configOf l)
+
+-- Fields of 8 bytes: 0 SWS, 1 PLLSRC, 2 PLLXTPRE, 3 PLLMUL, 4 HPRE, 5 PPRE1, 6 PPRE2, 7 the HSI predivider bit
+abbrev pub fieldsIn : List ℕ → Fields
+fieldsIn l = record {
+  sws = at l 0;
+  pllsrc = yes (at l 1);
+  pllxtpre = yes (at l 2);
+  pllmul = at l 3;
+  hpre = at l 4;
+  ppre1 = at l 5;
+  ppre2 = at l 6;
+  hsipre = yes (at l 7);
+}
+
+abbrev pub fieldsAllowed : List ℕ → Bool
+fieldsAllowed l = yesOrNo (at l 1) && yesOrNo (at l 2) && yesOrNo (at l 7)
+
+unfoldable pub readFields : List ℕ → Answer Fields
+readFields l = do
+  refuse 28 (not (eqb (length l) 8))
+  refuse 28 (not (fieldsAllowed l))
+  gives (fieldsIn l)
+
+abbrev pub bytesOf : Fields → List ℕ
+bytesOf f = f .sws ∷ bit (f .pllsrc) ∷ bit (f .pllxtpre) ∷ f .pllmul ∷ f .hpre ∷ f .ppre1 ∷ f .ppre2 ∷ bit (f .hsipre) ∷ []
+
+abbrev pub fieldBytes : Answer Fields → Answer (List ℕ)
+fieldBytes m = do
+  f ← m
+  gives (bytesOf f)
+
+-- The check: 28 for a part neither 0 nor 1, then for the record, then as the check refuses
+unfoldable pub checkRead : ℕ → List ℕ → Answer (Clocks × ℕ)
+checkRead part l = do
+  refuse 28 (ltb 1 part)
+  c ← readConfig l
+  checkOf (chipOf part) c
+
+-- The decoder, likewise
+unfoldable pub decodeRead : ℕ → List ℕ → ℕ → Answer Clocks
+decodeRead part l hz = do
+  refuse 28 (ltb 1 part)
+  f ← readFields l
+  decodeOf (chipOf part) f (hseNumber hz)
+
+-- The fields call, likewise: the configuration's record, then that of the earlier fields
+unfoldable pub initRead : ℕ → List ℕ → List ℕ → Answer Fields
+initRead part l e = do
+  refuse 28 (ltb 1 part)
+  c ← readConfig l
+  f ← readFields e
+  fieldsOf (chipOf part) c f

@@ -1,0 +1,79 @@
+-- Laws of the records of CH32V1 and CH32L1: a configuration has one, and the bytes that fields are given as are read as these fields.
+-- Assumes nothing.
+use Prim.Native.Nat.{ℕ, _<_}
+use mathlib.Core.Path.{_≡_, refl, sym, ap, _∙_}
+use mathlib.Core.Bool.{Bool, true, false, not, _&&_, _||_}
+use mathlib.Core.List.{List, [], _∷_, _++_}
+use borrow.Author.Tests.{eqb-true, not-false}
+use lib.Dec.{eqb}
+use lib.ListN.{length}
+use Rattle.answer.specs.Answer.{gives, passed}
+use Rattle.layout.proofs.Reading.{flag-of-bit}
+use Rattle.layout.proofs.Laws.{and-left, and-right}
+use Rattle.v1.specs.declared.Pll.{Pll}
+use Rattle.v1.specs.declared.Pll.the-variants as pll
+use Rattle.v1.specs.declared.Config.{Config}
+use Rattle.v1.specs.declared.Fields.{Fields}
+use Rattle.v1.specs.V1.{lessOf}
+use Rattle.capi_bytes.specs.Bytes.{at, yes, yesOrNo, frequencyOf, hseAllowed}
+use Rattle.capi_bytes.specs.Records.{listed, entries, same, said-as, bit-says, or-else, sourceByte, source-back, hseBytes, hse-back}
+use Rattle.capi_v1.specs.Calls.{pllOf, configOf, configAllowed, readConfig, readFields, bytesOf}
+
+abbrev pub pllBytes : Pll → List ℕ
+pllBytes pll.Absent = 0 ∷ 0 ∷ 0 ∷ []
+pllBytes (pll.Present prediv mul) = 1 ∷ lessOf prediv ∷ mul ∷ []
+
+-- the record of a configuration
+unfoldable pub configBytes : Config → List ℕ
+configBytes c =
+    hseBytes (c .hse)
+    ++ (c .sys ∷ sourceByte (c .«pll_src») ∷ (pllBytes (c .pll) ++ (c .«ahb_pre» ∷ c .«apb1_pre» ∷ c .«apb2_pre» ∷ [])))
+
+module _ (p h mul : ℕ) (allowed : (yesOrNo p && yesOrNo h && (yes p || eqb h 0 && eqb mul 0)) ≡ true) where
+  here : yesOrNo p ≡ true
+  here = and-left (yesOrNo p) (yesOrNo h) (and-left _ _ allowed)
+
+  pll-as : (t u : Bool) → yes p ≡ t → yes h ≡ u → pllBytes (pllOf t u mul) ≡ p ∷ h ∷ mul ∷ []
+  pll-as true true e q = same (sym (eqb-true p 1 e)) (same (sym (eqb-true h 1 q)) refl)
+  pll-as true false e q =
+      same (sym (eqb-true p 1 e)) (same (said-as h false q (and-right (yesOrNo p) (yesOrNo h) (and-left _ _ allowed))) refl)
+  pll-as false u e q =
+      let none : (eqb h 0 && eqb mul 0) ≡ true = or-else (yes p) _ e (and-right (yesOrNo p && yesOrNo h) _ allowed) in
+      same (said-as p false e here)
+      (same (sym (eqb-true h 0 (and-left _ (eqb mul 0) none))) (same (sym (eqb-true mul 0 (and-right (eqb h 0) _ none))) refl))
+
+-- what is read of a record gives it back
+back : (l : List ℕ) → ((i : ℕ) → at l i < 256) → configAllowed l ≡ true → configBytes (configOf l) ≡ listed (at l) 14
+unfolding configBytes configOf configAllowed
+back l small h =
+    let hse-source = and-left (hseAllowed (at l 0) (at l 1) (frequencyOf l) && yesOrNo (at l 7)) _ h in
+    let hse = hse-back l small (and-left _ (yesOrNo (at l 7)) hse-source) in
+    let source = source-back (at l 7) (and-right (hseAllowed (at l 0) (at l 1) (frequencyOf l)) _ hse-source) in
+    let pll = pll-as (at l 8) (at l 9) (at l 10)
+    (and-right (hseAllowed (at l 0) (at l 1) (frequencyOf l) && yesOrNo (at l 7)) _ h)
+    (yes (at l 8)) (yes (at l 9)) refl refl in
+    rw (hse, source, pll) refl
+
+-- a configuration that is read of a record has that record alone
+pub one-record : (l : List ℕ) → ((i : ℕ) → at l i < 256) → (c : Config) → readConfig l ≡ gives c → l ≡ configBytes c
+unfolding readConfig
+one-record l small c e =
+    let sized = passed 28 (not (eqb (length l) 14)) _ e in
+    let allowed = passed 28 (not (configAllowed l)) (gives (configOf l)) (sized .after) in
+    let long : length l ≡ 14 = eqb-true (length l) 14 (not-false (eqb (length l) 14) (sized .failed)) in
+    let read : configOf l ≡ c = cc (allowed .after) in
+    entries l ∙ ap (listed (at l)) long ∙ sym (back l small (not-false (configAllowed l) (allowed .failed))) ∙ ap configBytes read
+
+-- the bytes that fields are given as are read as these fields
+pub fields-read-back : (f : Fields) → readFields (bytesOf f) ≡ gives f
+unfolding readFields
+fields-read-back f =
+    rw (
+      bit-says (f .pllsrc),
+      bit-says (f .pllxtpre),
+      bit-says (f .hsipre),
+      flag-of-bit (f .pllsrc),
+      flag-of-bit (f .pllxtpre),
+      flag-of-bit (f .hsipre),
+    )
+    refl

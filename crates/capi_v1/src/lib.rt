@@ -1,0 +1,238 @@
+// CH32V1 and CH32L1 for C: the check, the decoder, and the fields that starting a configuration leaves.
+ghost use mathlib.Core.Path.{_≡_};
+ghost use lib.ListN.{length};
+ghost use Rattle.pll32.specs.Pll.{accepted};
+ghost use Rattle.tree.specs.Tree.{running};
+ghost use Rattle.v1.specs.V1.{written};
+ghost use Rattle.lent.specs.Given.{Given, sixWords, sevenWords};
+ghost use Rattle.capi_v1.specs.Calls.{chipOf, pllOf, configOf, configAllowed, readConfig, takenConfig, fieldsIn, fieldsAllowed, readFields, takenFields, bytesOf, fieldBytes, checkRead, decodeRead, initRead};
+use pll32::Checked;
+use tree::Buses;
+use v1::Chip;
+use v1::Config;
+use v1::Fields;
+use v1::Pll;
+use v1::PllPreDiv;
+use v1::Written;
+
+// The part CH32V1.
+pub const V1_PART_V1: u8 = 0;
+// The part CH32L1.
+pub const V1_PART_L1: u8 = 1;
+// Bytes of a configuration of CH32V1 or CH32L1.
+pub const V1_CONFIG_SIZE: usize = 14;
+// Bytes of register fields of CH32V1 or CH32L1.
+pub const V1_FIELDS_SIZE: usize = 8;
+
+// A configuration from its bytes, or a refusal number.
+pub enum TakenConfig {
+    Is(Config),
+    Refused(u8),
+}
+
+// Register fields from their bytes, or a refusal number.
+pub enum TakenFields {
+    Is(Fields),
+    Refused(u8),
+}
+
+fn chip(part: u8) -> Chip
+    ensures { λ r. ⌜ r ≡ chipOf part ⌝ }
+{
+    if part == V1_PART_L1 {
+        Chip::L1
+    } else {
+        Chip::V1
+    }
+}
+
+fn pll(present: bool, halved: bool, mul: u8) -> Pll
+    ensures { λ r. ⌜ r ≡ pllOf present halved mul ⌝ }
+{
+    if !present {
+        return Pll::Absent;
+    }
+    if halved {
+        Pll::Present {
+            prediv: PllPreDiv::Div2,
+            mul,
+        }
+    } else {
+        Pll::Present {
+            prediv: PllPreDiv::Div1,
+            mul,
+        }
+    }
+}
+
+fn config_of(b: &[u8]) -> Config
+    requires { ⌜ length (now b) ≡ 14 ⌝ }
+    ensures { λ r. ⌜ r ≡ configOf (now (b .entry)) ⌝ }
+{
+    Config {
+        hse: capi_bytes::hse(b[0] == 1, b[1] == 1, capi_bytes::frequency(b)),
+        sys: b[6],
+        pll_src: pll32::source_of(b[7] == 1),
+        pll: pll(b[8] == 1, b[9] == 1, b[10]),
+        ahb_pre: b[11],
+        apb1_pre: b[12],
+        apb2_pre: b[13],
+    }
+}
+
+fn config_allowed(b: &[u8]) -> bool
+    requires { ⌜ length (now b) ≡ 14 ⌝ }
+    ensures { λ r. ⌜ r ≡ configAllowed (now (b .entry)) ⌝ }
+{
+    capi_bytes::hse_allowed(b[0], b[1], capi_bytes::frequency(b))
+        & (b[7] <= 1)
+        & ((b[8] <= 1) & (b[9] <= 1) & ((b[8] == 1) | (b[9] == 0) & (b[10] == 0)))
+}
+
+fn take_config(b: &[u8]) -> TakenConfig
+    ensures { λ r. ⌜ takenConfig r ≡ readConfig (now (b .entry)) ⌝ }
+{
+    if b.len() != V1_CONFIG_SIZE {
+        return TakenConfig::Refused(answer::CODE_NOT_ALLOWED);
+    }
+    if !config_allowed(b) {
+        return TakenConfig::Refused(answer::CODE_NOT_ALLOWED);
+    }
+    TakenConfig::Is(config_of(b))
+}
+
+fn fields_in(b: &[u8]) -> Fields
+    requires { ⌜ length (now b) ≡ 8 ⌝ }
+    ensures { λ r. ⌜ r ≡ fieldsIn (now (b .entry)) ⌝ }
+{
+    Fields {
+        sws: b[0],
+        pllsrc: b[1] == 1,
+        pllxtpre: b[2] == 1,
+        pllmul: b[3],
+        hpre: b[4],
+        ppre1: b[5],
+        ppre2: b[6],
+        hsipre: b[7] == 1,
+    }
+}
+
+fn fields_allowed(b: &[u8]) -> bool
+    requires { ⌜ length (now b) ≡ 8 ⌝ }
+    ensures { λ r. ⌜ r ≡ fieldsAllowed (now (b .entry)) ⌝ }
+{
+    (b[1] <= 1) & (b[2] <= 1) & (b[7] <= 1)
+}
+
+fn take_fields(b: &[u8]) -> TakenFields
+    ensures { λ r. ⌜ takenFields r ≡ readFields (now (b .entry)) ⌝ }
+{
+    if b.len() != V1_FIELDS_SIZE {
+        return TakenFields::Refused(answer::CODE_NOT_ALLOWED);
+    }
+    if !fields_allowed(b) {
+        return TakenFields::Refused(answer::CODE_NOT_ALLOWED);
+    }
+    TakenFields::Is(fields_in(b))
+}
+
+fn check(part: u8, config: &[u8]) -> Checked
+    ensures { λ r. ⌜ accepted r ≡ checkRead part (now (config .entry)) ⌝ }
+{
+    if V1_PART_L1 < part {
+        return Checked::Refused(answer::CODE_NOT_ALLOWED);
+    }
+    match take_config(config) {
+        TakenConfig::Refused(n) => Checked::Refused(n),
+        TakenConfig::Is(c) => v1::check(chip(part), c),
+    }
+}
+
+// Checks a configuration of 14 bytes. Gives seven words: the six clocks, and twice the USB divisor, 0 where there is none.
+// Refused by 32, 28, then by 3, 24, 20, 26.
+#[no_mangle]
+pub extern "C" fn wontabeli_v1_check(part: u8, config: &[u8], out: &mut [u32]) -> u8
+    ensures { λ r. ⌜ Given 7 (sevenWords (checkRead part (now (config .entry)))) (now (out .entry)) (now (out .exit)) r ⌝ }
+{
+    lent::give_seven(capi_bytes::seven(check(part, config)), out)
+}
+
+fn decode(part: u8, fields: &[u8], hse: u32) -> Buses
+    ensures { λ r. ⌜ running r ≡ decodeRead part (now (fields .entry)) hse ⌝ }
+{
+    if V1_PART_L1 < part {
+        return Buses::Refused(answer::CODE_NOT_ALLOWED);
+    }
+    match take_fields(fields) {
+        TakenFields::Refused(n) => Buses::Refused(n),
+        TakenFields::Is(f) => v1::decode(chip(part), f, capi_bytes::hse_number(hse)),
+    }
+}
+
+// Decodes fields of 8 bytes, with HSE's frequency; 0 says that there is none. Gives six words: the six clocks.
+// Refused by 32, 28, then by 3, 24.
+#[no_mangle]
+pub extern "C" fn wontabeli_v1_decode(part: u8, fields: &[u8], hse: u32, out: &mut [u32]) -> u8
+    ensures { λ r. ⌜ Given 6 (sixWords (decodeRead part (now (fields .entry)) hse)) (now (out .entry)) (now (out .exit)) r ⌝ }
+{
+    lent::give_six(decode(part, fields, hse), out)
+}
+
+fn init_fields(part: u8, config: &[u8], earlier: &[u8]) -> Written
+    ensures { λ r. ⌜ written r ≡ initRead part (now (config .entry)) (now (earlier .entry)) ⌝ }
+{
+    if V1_PART_L1 < part {
+        return Written::Refused(answer::CODE_NOT_ALLOWED);
+    }
+    match take_config(config) {
+        TakenConfig::Refused(n) => Written::Refused(n),
+        TakenConfig::Is(c) => match take_fields(earlier) {
+            TakenFields::Refused(n) => Written::Refused(n),
+            TakenFields::Is(f) => v1::init_fields(chip(part), c, f),
+        },
+    }
+}
+
+fn bytes(f: Fields) -> [u8; 8]
+    ensures { λ r. ⌜ r ≡ bytesOf f ⌝ }
+{
+    [
+        f.sws,
+        f.pllsrc as u8,
+        f.pllxtpre as u8,
+        f.pllmul,
+        f.hpre,
+        f.ppre1,
+        f.ppre2,
+        f.hsipre as u8,
+    ]
+}
+
+fn give_fields(fields: Written, out: &mut [u8]) -> u8
+    ensures { λ r. ⌜ Given 8 (fieldBytes (written fields)) (now (out .entry)) (now (out .exit)) r ⌝ }
+{
+    if out.len() < V1_FIELDS_SIZE {
+        return answer::OUTPUT_TOO_SHORT;
+    }
+    match fields {
+        Written::Refused(n) => n,
+        Written::Is(f) => {
+            let xs = bytes(f);
+            lent::give_bytes(&xs, out)
+        }
+    }
+}
+
+// The fields that starting a configuration of 14 bytes leaves, over earlier ones of 8 bytes. Gives 8 bytes.
+// Refused by 32, by 28 for the configuration's bytes, by 28 for the earlier fields', then by 28, 3, 24, 20, 26.
+#[no_mangle]
+pub extern "C" fn wontabeli_v1_init_fields(
+    part: u8,
+    config: &[u8],
+    earlier: &[u8],
+    out: &mut [u8],
+) -> u8
+    ensures { λ r. ⌜ Given 8 (fieldBytes (initRead part (now (config .entry)) (now (earlier .entry)))) (now (out .entry)) (now (out .exit)) r ⌝ }
+{
+    give_fields(init_fields(part, config, earlier), out)
+}

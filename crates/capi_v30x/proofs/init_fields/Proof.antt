@@ -1,0 +1,69 @@
+use borrow.Author.Needs.{needs}
+use Rattle.capi_v30x.specs.Calls.{takenConfig, takenFields, initRead}
+use Rattle.answer.specs.Answer.{told}
+use Rattle.capi_v30x.proofs.init_fields.Statement.{statement}
+use Rattle.capi_v30x.proofs.init_fields.Tie as tie
+
+take-config-requires : tie.Need-take-config-requires
+take-config-requires c κs = search needs
+
+enum-known-n : tie.Need-enum-known-n
+enum-known-n c = search needs
+
+enum-known-c : tie.Need-enum-known-c
+enum-known-c c = search needs
+
+take-fields-requires : tie.Need-take-fields-requires
+take-fields-requires c κs = search needs
+
+enum-known-n-2 : tie.Need-enum-known-n-2
+enum-known-n-2 c = search needs
+
+enum-known-f : tie.Need-enum-known-f
+enum-known-f c = search needs
+
+init-fields-requires : tie.Need-init-fields-requires
+init-fields-requires c κs = search needs
+
+returns : tie.Need-returns
+unfolding initRead
+returns c = simp (told takenConfig (c .before .before .before .take-config .ensures) (c .before .n .given .1))
+
+returns-2 : tie.Need-returns-2
+unfolding initRead
+returns-2 c =
+    let take-config = c .before .before .before .before .before .before .before .take-config in
+    let config = c .before .before .before .before .before .c in
+    let take-fields = c .before .before .before .take-fields in
+    simp (
+      told takenConfig (take-config .ensures) (config .given .1),
+      told takenFields (take-fields .ensures) (c .before .n2 .given .1),
+    )
+
+returns-3 : tie.Need-returns-3
+unfolding initRead
+returns-3 c =
+    let take-config = c .before .before .before .before .before .before .before .before .take-config in
+    let config = c .before .before .before .before .before .before .c in
+    let take-fields = c .before .before .before .before .take-fields in
+    let fields = c .before .before .f in
+    simp (
+      told takenConfig (take-config .ensures) (config .given .1),
+      told takenFields (take-fields .ensures) (fields .given .1),
+      c .init-fields .ensures,
+    )
+
+pub init-fields-spec : {M : Type 1} → statement M
+init-fields-spec =
+    tie.close
+    (tie.spec
+    take-config-requires
+    enum-known-n
+    enum-known-c
+    take-fields-requires
+    enum-known-n-2
+    enum-known-f
+    init-fields-requires
+    returns
+    returns-2
+    returns-3)

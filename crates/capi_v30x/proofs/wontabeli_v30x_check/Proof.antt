@@ -1,0 +1,29 @@
+use mathlib.Core.Path.{sym, ap, _∙_}
+use borrow.Author.Needs.{needs}
+use Rattle.lent.specs.Giving.{carried}
+use Rattle.lent.specs.Given.{sevenWords}
+use Rattle.capi_v30x.proofs.wontabeli_v30x_check.Statement.{statement}
+use Rattle.capi_v30x.proofs.wontabeli_v30x_check.Tie as tie
+
+check-requires : tie.Need-check-requires
+check-requires c κs = search needs
+
+seven-requires : tie.Need-seven-requires
+seven-requires c κs = search needs
+
+give-seven-requires : tie.Need-give-seven-requires
+give-seven-requires c κs = search needs
+
+same-length : tie.Need-same-length
+same-length c = search needs
+
+returns : tie.Need-returns
+returns c =
+    let give-seven = c .before .before .give-seven in
+    let seven = c .before .before .before .before .seven in
+    let check = c .before .before .before .before .before .check in
+    carried _ _ _ _ _ _ (give-seven .ensures) (ap sevenWords (sym (seven .ensures ∙ check .ensures)))
+
+pub wontabeli-v30x-check-spec : {M : Type 1} → statement M
+wontabeli-v30x-check-spec =
+    tie.close (tie.spec check-requires seven-requires give-seven-requires same-length returns)

@@ -1,0 +1,128 @@
+-- The calls of CH32V30x on bytes.
+-- Assumes nothing.
+use Prim.Native.Nat.{ℕ}
+use mathlib.Core.Bool.{Bool, cond, not, _&&_, _||_}
+use mathlib.Core.List.{List, [], _∷_}
+use lib.Dec.{eqb, leb}
+use lib.ListN.{length}
+use Rattle.answer.specs.Answer.{Answer, gives, refuses, refuse, _>>=_, _>>_}
+use Rattle.layout.specs.Bits.{bit}
+use Rattle.tree.specs.declared.Clocks.{Clocks}
+use Rattle.pll32.specs.Pll.{sourceOf}
+use Rattle.v30x.specs.declared.PllSource.{PllSource}
+use Rattle.v30x.specs.declared.PllSource.the-variants as source
+use Rattle.v30x.specs.declared.Pll.{Pll}
+use Rattle.v30x.specs.declared.Pll.the-variants as pll
+use Rattle.v30x.specs.declared.HsPll.{HsPll}
+use Rattle.v30x.specs.declared.HsPll.the-variants as hspll
+use Rattle.v30x.specs.declared.Config.{Config}
+use Rattle.v30x.specs.declared.Fields.{Fields}
+use Rattle.v30x.specs.V30x.{checkOf, decodeOf, fieldsOf}
+use Rattle.capi_bytes.specs.Bytes.{at, yes, yesOrNo, frequencyOf, hseOf, hseAllowed, hseNumber}
+use Rattle.capi_v30x.specs.declared.TakenConfig.{TakenConfig}
+use Rattle.capi_v30x.specs.declared.TakenConfig.the-variants as config
+use Rattle.capi_v30x.specs.declared.TakenFields.{TakenFields}
+use Rattle.capi_v30x.specs.declared.TakenFields.the-variants as fields
+
+-- What the answers say.
+abbrev pub takenConfig : TakenConfig → Answer Config
+takenConfig (config.Is c) = gives c
+takenConfig (config.Refused n) = refuses n
+
+abbrev pub takenFields : TakenFields → Answer Fields
+takenFields (fields.Is f) = gives f
+takenFields (fields.Refused n) = refuses n
+
+-- what feeds the PLL: 0 HSI, 1 HSE, 2 PLL2
+abbrev pub pllSourceOf : ℕ → PllSource
+pllSourceOf b = cond (eqb b 0) source.Hsi (cond (eqb b 1) source.Hse source.Pll2)
+
+abbrev pub pllOf : Bool → ℕ → ℕ → Pll
+pllOf present pre mul = cond present (pll.Present pre mul) pll.Absent
+
+abbrev pub hsPllOf : Bool → ℕ → HsPll
+hsPllOf present pre = cond present (hspll.Present pre) hspll.Absent
+
+-- A configuration of 18 bytes: 0 HSE present, 1 bypass, 2 to 5 its frequency, 6 the system clock, 7 the PLL's source, 8 PLL present, 9 its predivider's
+-- code, 10 its multiplier's, 11 PLL2 or PLL3 asked for, 12 AHB, 13 APB1, 14 APB2, 15 USBHS from HSE, 16 USBHS present, 17 its prescaler's code
+unfoldable pub configOf : List ℕ → Config
+configOf l = record {
+  hse = hseOf (yes (at l 0)) (yes (at l 1)) (frequencyOf l);
+  sys = at l 6;
+  «pll_src» = pllSourceOf (at l 7);
+  pll = pllOf (yes (at l 8)) (at l 9) (at l 10);
+  pllx = yes (at l 11);
+  «ahb_pre» = at l 12;
+  «apb1_pre» = at l 13;
+  «apb2_pre» = at l 14;
+  «hspll_src» = sourceOf (yes (at l 15));
+  hspll = hsPllOf (yes (at l 16)) (at l 17);
+}
+
+-- The PLL's bytes and those of USBHS: a source that there is, yes or no where that is asked, and an absent part's bytes zero
+abbrev pub pllAllowed : List ℕ → Bool
+pllAllowed l = leb (at l 7) 2 && yesOrNo (at l 8) && (yes (at l 8) || eqb (at l 9) 0 && eqb (at l 10) 0) && yesOrNo (at l 11)
+
+abbrev pub usbhsAllowed : List ℕ → Bool
+usbhsAllowed l = yesOrNo (at l 15) && yesOrNo (at l 16) && (yes (at l 16) || eqb (at l 17) 0)
+
+-- so a configuration has one record
+unfoldable pub configAllowed : List ℕ → Bool
+configAllowed l = hseAllowed (at l 0) (at l 1) (frequencyOf l) && pllAllowed l && usbhsAllowed l
+
+unfoldable pub readConfig : List ℕ → Answer Config
+readConfig l = do
+  refuse 28 (not (eqb (length l) 18))
+  refuse 28 (not (configAllowed l))
+  gives (configOf l)
+
+-- Fields of 9 bytes: 0 SWS, 1 PLLSRC, 2 PREDIV1, 3 PREDIV1SRC, 4 PLLMUL, 5 HPRE, 6 PPRE1, 7 PPRE2, 8 the HSI predivider bit
+abbrev pub fieldsIn : List ℕ → Fields
+fieldsIn l = record {
+  sws = at l 0;
+  pllsrc = yes (at l 1);
+  prediv1 = at l 2;
+  prediv1src = yes (at l 3);
+  pllmul = at l 4;
+  hpre = at l 5;
+  ppre1 = at l 6;
+  ppre2 = at l 7;
+  hsipre = yes (at l 8);
+}
+
+abbrev pub fieldsAllowed : List ℕ → Bool
+fieldsAllowed l = yesOrNo (at l 1) && yesOrNo (at l 3) && yesOrNo (at l 8)
+
+unfoldable pub readFields : List ℕ → Answer Fields
+readFields l = do
+  refuse 28 (not (eqb (length l) 9))
+  refuse 28 (not (fieldsAllowed l))
+  gives (fieldsIn l)
+
+abbrev pub bytesOf : Fields → List ℕ
+bytesOf f =
+    f .sws ∷ bit (f .pllsrc) ∷ f .prediv1 ∷ bit (f .prediv1src) ∷ f .pllmul ∷ f .hpre ∷ f .ppre1 ∷ f .ppre2 ∷ bit (f .hsipre) ∷ []
+
+abbrev pub fieldBytes : Answer Fields → Answer (List ℕ)
+fieldBytes m = do
+  f ← m
+  gives (bytesOf f)
+
+-- The check: 28 for the record, then as the check refuses
+unfoldable pub checkRead : List ℕ → Answer (Clocks × ℕ)
+checkRead l = do
+  c ← readConfig l
+  checkOf c
+
+-- The decoder, likewise
+unfoldable pub decodeRead : List ℕ → ℕ → Answer Clocks
+decodeRead l hz = do
+  f ← readFields l
+  decodeOf f (hseNumber hz)
+
+-- The fields call, likewise: the configuration's record, then that of the earlier fields
+unfoldable pub initRead : List ℕ → List ℕ → Answer Fields
+initRead l e = do
+  c ← readConfig l
+  f ← readFields e
+  fieldsOf c f

@@ -1,0 +1,112 @@
+-- Laws of the records of CH32V30x: a configuration has one, and the bytes that fields are given as are read as these fields.
+-- Assumes nothing.
+use Prim.Native.Nat.{ℕ, _<_}
+use mathlib.Core.Path.{_≡_, refl, sym, ap, _∙_}
+use mathlib.Core.Bool.{Bool, true, false, cond, not, _&&_, _||_}
+use mathlib.Core.List.{List, [], _∷_, _++_}
+use native.Mathlib.Omega.{arith}
+use borrow.Author.Tests.{leb-true, eqb-true, eqb-false, not-false}
+use lib.Dec.{eqb, leb}
+use lib.ListN.{length}
+use Rattle.answer.specs.Answer.{gives, passed}
+use Rattle.layout.specs.Bits.{bit}
+use Rattle.layout.proofs.Reading.{flag-of-bit}
+use Rattle.layout.proofs.Laws.{and-left, and-right}
+use Rattle.v30x.specs.declared.PllSource.{PllSource}
+use Rattle.v30x.specs.declared.PllSource.the-variants as source
+use Rattle.v30x.specs.declared.Pll.{Pll}
+use Rattle.v30x.specs.declared.Pll.the-variants as pll
+use Rattle.v30x.specs.declared.HsPll.{HsPll}
+use Rattle.v30x.specs.declared.HsPll.the-variants as hspll
+use Rattle.v30x.specs.declared.Config.{Config}
+use Rattle.v30x.specs.declared.Fields.{Fields}
+use Rattle.capi_bytes.specs.Bytes.{at, yes, yesOrNo, frequencyOf, hseAllowed}
+use Rattle.capi_bytes.specs.Records.{listed, entries, same, said, said-as, bit-says, or-else, sourceByte, source-back, hseBytes, hse-back}
+use Rattle.capi_v30x.specs.Calls.{pllOf, hsPllOf, configOf, pllAllowed, usbhsAllowed, configAllowed, readConfig, readFields, bytesOf}
+
+abbrev pub pllSourceByte : PllSource → ℕ
+pllSourceByte source.Hsi = 0
+pllSourceByte source.Hse = 1
+pllSourceByte source.Pll2 = 2
+
+abbrev pub pllBytes : Pll → List ℕ
+pllBytes pll.Absent = 0 ∷ 0 ∷ 0 ∷ []
+pllBytes (pll.Present prediv mul) = 1 ∷ prediv ∷ mul ∷ []
+
+abbrev pub hsPllBytes : HsPll → List ℕ
+hsPllBytes hspll.Absent = 0 ∷ 0 ∷ []
+hsPllBytes (hspll.Present pre) = 1 ∷ pre ∷ []
+
+-- the record of a configuration
+unfoldable pub configBytes : Config → List ℕ
+configBytes c =
+    hseBytes (c .hse)
+    ++ (c .sys ∷ pllSourceByte (c .«pll_src»)
+    ∷ (pllBytes (c .pll) ++ (bit (c .pllx) ∷ c .«ahb_pre» ∷ c .«apb1_pre» ∷ c .«apb2_pre» ∷ sourceByte (c .«hspll_src») ∷ hsPllBytes (c .hspll))))
+
+source-as : (x : ℕ) (t u : Bool) → eqb x 0 ≡ t → eqb x 1 ≡ u → leb x 2 ≡ true → pllSourceByte (cond t source.Hsi (cond u source.Hse source.Pll2)) ≡ x
+source-as x true u e q h = sym (eqb-true x 0 e)
+source-as x false true e q h = sym (eqb-true x 1 q)
+source-as x false false e q h =
+    let k = leb-true x 2 h in
+    let not-0 = eqb-false x 0 e in
+    let not-1 = eqb-false x 1 q in
+    omega (arith, k, not-0, not-1)
+
+pll-as : (p pre mul : ℕ) (t : Bool) → yes p ≡ t → yesOrNo p ≡ true → (yes p || eqb pre 0 && eqb mul 0) ≡ true →
+    pllBytes (pllOf t pre mul) ≡ p ∷ pre ∷ mul ∷ []
+pll-as p pre mul true e h q = same (sym (eqb-true p 1 e)) refl
+pll-as p pre mul false e h q =
+    let none : (eqb pre 0 && eqb mul 0) ≡ true = or-else (yes p) _ e q in
+    same (said-as p false e h)
+    (same (sym (eqb-true pre 0 (and-left _ (eqb mul 0) none))) (same (sym (eqb-true mul 0 (and-right (eqb pre 0) _ none))) refl))
+
+hspll-as : (p pre : ℕ) (t : Bool) → yes p ≡ t → yesOrNo p ≡ true → (yes p || eqb pre 0) ≡ true → hsPllBytes (hsPllOf t pre) ≡ p ∷ pre ∷ []
+hspll-as p pre true e h q = same (sym (eqb-true p 1 e)) refl
+hspll-as p pre false e h q = same (said-as p false e h) (same (sym (eqb-true pre 0 (or-else (yes p) _ e q))) refl)
+
+-- what is read of a record gives it back
+back : (l : List ℕ) → ((i : ℕ) → at l i < 256) → configAllowed l ≡ true → configBytes (configOf l) ≡ listed (at l) 18
+unfolding configBytes configOf configAllowed
+back l small h =
+    let hse-pll = and-left (hseAllowed (at l 0) (at l 1) (frequencyOf l) && pllAllowed l) (usbhsAllowed l) h in
+    let pll-x : pllAllowed l ≡ true = and-right (hseAllowed (at l 0) (at l 1) (frequencyOf l)) (pllAllowed l) hse-pll in
+    let pll-all = and-left _ (yesOrNo (at l 11)) pll-x in
+    let source-pll = and-left (leb (at l 7) 2 && yesOrNo (at l 8)) _ pll-all in
+    let usbhs : usbhsAllowed l ≡ true = and-right (hseAllowed (at l 0) (at l 1) (frequencyOf l) && pllAllowed l) (usbhsAllowed l) h in
+    let hs-source = and-left (yesOrNo (at l 15) && yesOrNo (at l 16)) _ usbhs in
+    rw (
+      hse-back l small (and-left _ (pllAllowed l) hse-pll),
+      source-as (at l 7) (eqb (at l 7) 0) (eqb (at l 7) 1) refl refl (and-left _ (yesOrNo (at l 8)) source-pll),
+      pll-as (at l 8) (at l 9) (at l 10) (yes (at l 8)) refl (and-right (leb (at l 7) 2) _ source-pll)
+          (and-right (leb (at l 7) 2 && yesOrNo (at l 8)) _ pll-all),
+      said (at l 11) (and-right (leb (at l 7) 2 && yesOrNo (at l 8) && (yes (at l 8) || eqb (at l 9) 0 && eqb (at l 10) 0)) _ pll-x),
+      source-back (at l 15) (and-left _ (yesOrNo (at l 16)) hs-source),
+      hspll-as (at l 16) (at l 17) (yes (at l 16)) refl (and-right (yesOrNo (at l 15)) _ hs-source)
+          (and-right (yesOrNo (at l 15) && yesOrNo (at l 16)) _ usbhs),
+    )
+    refl
+
+-- a configuration that is read of a record has that record alone
+pub one-record : (l : List ℕ) → ((i : ℕ) → at l i < 256) → (c : Config) → readConfig l ≡ gives c → l ≡ configBytes c
+unfolding readConfig
+one-record l small c e =
+    let sized = passed 28 (not (eqb (length l) 18)) _ e in
+    let allowed = passed 28 (not (configAllowed l)) (gives (configOf l)) (sized .after) in
+    let long : length l ≡ 18 = eqb-true (length l) 18 (not-false (eqb (length l) 18) (sized .failed)) in
+    let read : configOf l ≡ c = cc (allowed .after) in
+    entries l ∙ ap (listed (at l)) long ∙ sym (back l small (not-false (configAllowed l) (allowed .failed))) ∙ ap configBytes read
+
+-- the bytes that fields are given as are read as these fields
+pub fields-read-back : (f : Fields) → readFields (bytesOf f) ≡ gives f
+unfolding readFields
+fields-read-back f =
+    rw (
+      bit-says (f .pllsrc),
+      bit-says (f .prediv1src),
+      bit-says (f .hsipre),
+      flag-of-bit (f .pllsrc),
+      flag-of-bit (f .prediv1src),
+      flag-of-bit (f .hsipre),
+    )
+    refl

@@ -1,0 +1,42 @@
+use mathlib.Core.Path.{refl}
+use borrow.Author.Needs.{needs}
+use Rattle.lent.specs.Giving.{short, refused, passed-on}
+use Rattle.lent.proofs.give_two.Statement.{statement}
+use Rattle.lent.proofs.give_two.Tie as tie
+
+returns : tie.Need-returns
+returns c = short _ _ _ (c .if1 .taken)
+
+enum-known-answer : tie.Need-enum-known-answer
+enum-known-answer c = search needs
+
+enum-known-answer-2 : tie.Need-enum-known-answer-2
+enum-known-answer-2 c = search needs
+
+slice-aggregate-give : tie.Need-slice-aggregate-give
+slice-aggregate-give c = search needs
+
+give-requires : tie.Need-give-requires
+give-requires c κs = search needs
+
+returns-2 : tie.Need-returns-2
+returns-2 c = refused _ _ _ _ (c .before .before .before .if1 .left) (rw (c .before .answer .given .1) refl)
+
+same-length : tie.Need-same-length
+same-length c = search needs
+
+returns-3 : tie.Need-returns-3
+returns-3 c = passed-on _ _ _ _ _ _ refl (rw (c .before .before .before .before .before .before .answer2 .given .1) refl) (c .before .before .give .ensures)
+
+pub give-two-spec : {M : Type 1} → statement M
+give-two-spec =
+    tie.close
+    (tie.spec
+    returns
+    enum-known-answer
+    enum-known-answer-2
+    slice-aggregate-give
+    give-requires
+    returns-2
+    same-length
+    returns-3)

@@ -1,0 +1,152 @@
+/* Made by include/numbers; change the crates and run it again. */
+#ifndef WONTABELI_NUMBERS_H
+#define WONTABELI_NUMBERS_H
+
+/* The refusals. */
+#define WONTABELI_RNG_WITHOUT_USBHS 1 /* RNG from USBHS PLL, and that PLL not configured. */
+#define WONTABELI_RNG_WITHOUT_ETH 2 /* RNG from ETH PLL, and that PLL not configured. */
+#define WONTABELI_HSE_MISSING 3 /* HSE needed, no frequency. */
+#define WONTABELI_HSE_OUT_OF_RANGE 4 /* HSE outside 5,000,000..32,000,000. */
+#define WONTABELI_PLL_OUT_OF_RANGE 5 /* Main PLL output outside 100..400 MHz. */
+#define WONTABELI_ETH_NEEDS_25_MHZ 6 /* ETH PLL needed, HSE not 25 MHz. */
+#define WONTABELI_USBHS_WITHOUT_ETH 7 /* USBHS reference from ETH, no ETH PLL. */
+#define WONTABELI_USBHS_REFERENCE 8 /* USBHS reference not an allowed frequency. */
+#define WONTABELI_SYSPLL_WITHOUT_PLL 9 /* SYSPLL from main PLL, not configured. */
+#define WONTABELI_SYSPLL_WITHOUT_USBHS 10 /* SYSPLL from USBHS PLL, not configured. */
+#define WONTABELI_SYSPLL_WITHOUT_ETH 11 /* SYSPLL from ETH PLL, not configured. */
+#define WONTABELI_HCLK_TOO_FAST 12 /* HCLK above 200 MHz. */
+#define WONTABELI_ADC_WITHOUT_USBHS 13 /* ADC from USBHS PLL, not configured. */
+#define WONTABELI_ADC_DIVISOR 14 /* ADC divisor outside 1..32. */
+#define WONTABELI_ADC_TOO_FAST 15 /* ADC source > 30,000,000 x total divisor. */
+#define WONTABELI_ADC_TOO_SLOW 16 /* ADC below 1 Hz. */
+#define WONTABELI_USBHS_SOURCE_RESERVED 17 /* Decoder: USBHS source 3. */
+#define WONTABELI_USBHS_CODE_DIFFERS 18 /* Decoder: reference code not that of the reference. */
+#define WONTABELI_SYSPLL_SOURCE_RESERVED 19 /* SYSPLL source 4, 5 or 7. */
+#define WONTABELI_SYSCLK_RESERVED 20 /* System clock code 3. */
+#define WONTABELI_WAIT_FAILED 21 /* Startup: a wait failed. */
+#define WONTABELI_FLASH_MODE_DIFFERS 22 /* Startup: flash mode read back differs. */
+#define WONTABELI_CLOCKS_DIFFER 23 /* Startup: clocks differ after the switch. */
+#define WONTABELI_PLL_OVER_32_BITS 24 /* V1, V30x: PLL product over 32 bits. */
+#define WONTABELI_HSI_PREDIVIDER 25 /* V30x: HSI predivider not 1 or 2. */
+#define WONTABELI_SYSCLK_WITHOUT_PLL 26 /* V1, V30x: system clock PLL, none configured. */
+#define WONTABELI_PLL2_OR_PLL3 27 /* V30x: PLL2 or PLL3 asked for, or PREDIV1SRC set. */
+#define WONTABELI_CODE_NOT_ALLOWED 28 /* Code too wide or unnamed; a startup no starting gives. */
+#define WONTABELI_PROFILE_LENGTH 29 /* Profile not 10 bytes. */
+#define WONTABELI_PROFILE_CODE 30 /* Profile code or filling not allowed. */
+#define WONTABELI_IMAGE_LENGTH_OR_FILLING 31 /* Image not 8 bytes, or filling not zero. */
+#define WONTABELI_OUTPUT_TOO_SHORT 32 /* Lent output shorter than the record. */
+
+/* The clocks, by their place in what a check or a decoder gives; MORE is the number behind them. */
+#define WONTABELI_SYSCLK 0
+#define WONTABELI_HCLK 1
+#define WONTABELI_PCLK1 2
+#define WONTABELI_PCLK2 3
+#define WONTABELI_PCLK1_TIM 4
+#define WONTABELI_PCLK2_TIM 5
+#define WONTABELI_MORE 6
+
+/* The numbers of crates/lent. */
+#define WONTABELI_CLOCKS_WORDS 6 /* The six clocks, in words. */
+#define WONTABELI_CHECK_WORDS 7 /* The six clocks and one more number, in words. */
+#define WONTABELI_PAIR_WORDS 2 /* Two numbers, in words. */
+
+/* The numbers of crates/capi_codec. */
+#define WONTABELI_PROFILE_SIZE 10 /* A profile, in bytes. */
+#define WONTABELI_PROFILE_FIELDS 24 /* The fields of a profile, in bytes, one a field; HSE's frequency is four, and the filling the last. */
+#define WONTABELI_IMAGE_SIZE 8 /* An image, in bytes. */
+#define WONTABELI_IMAGE_FIELDS 34 /* The fields of an image, in bytes, one a field; the filling is the last. */
+
+/* The numbers of crates/capi_startup. */
+#define WONTABELI_PLACE_SIZE 32 /* A place's bytes. Its first ten are the profile. */
+#define WONTABELI_PLACE_IMAGE 10 /* The image, eight bytes: after a call the host writes its fields to the chip. */
+#define WONTABELI_PLACE_STEP 18 /* The step whose turn it is. */
+#define WONTABELI_PLACE_UNMET 19 /* The unmet readings of its wait, four bytes. */
+#define WONTABELI_PLACE_USED 23 /* All readings used, four bytes. */
+#define WONTABELI_PLACE_PHASE 27 /* 0 going; 1 over and running; 21, 22 or 23 over by that refusal. */
+#define WONTABELI_PLACE_WENT 28 /* How the last call went. */
+#define WONTABELI_PLACE_NUMBER 29 /* The last call's refusal: 0, 21, 22 or 23. */
+#define WONTABELI_PLACE_NAMED 30 /* The step that the last call names; 0 before the first call and with 23. */
+#define WONTABELI_WORKED 0 /* How a call went: the step is worked; at 19 the host writes the keys. */
+#define WONTABELI_WAITING 1 /* The reading did not meet the step's wait. */
+#define WONTABELI_RUNNING 2 /* Over: the clocks run as the check promised. */
+#define WONTABELI_FAILED 3 /* Over, by the refusal in the place. */
+#define WONTABELI_HSIRDY 1 /* HSI is ready. A reading is the sum of these. */
+#define WONTABELI_HSERDY 2 /* HSE is ready. */
+#define WONTABELI_PLLRDY 4 /* The main PLL is ready. */
+#define WONTABELI_USBHS_PLLRDY 8 /* The USBHS PLL is ready. */
+#define WONTABELI_ETH_PLLRDY 16 /* The ETH PLL is ready. */
+#define WONTABELI_SWS 32 /* SWS, two bits: its value times this. */
+#define WONTABELI_SCKMOD 128 /* SCKMOD, two bits: its value times this. */
+#define WONTABELI_KEYR 0 /* The register of the first two keys, KEYR. */
+#define WONTABELI_MODEKEYR 1 /* The register of the other two, MODEKEYR. */
+
+/* The numbers of crates/capi_v1. */
+#define WONTABELI_V1_PART_V1 0 /* The part CH32V1. */
+#define WONTABELI_V1_PART_L1 1 /* The part CH32L1. */
+#define WONTABELI_V1_CONFIG_SIZE 14 /* Bytes of a configuration of CH32V1 or CH32L1. */
+#define WONTABELI_V1_FIELDS_SIZE 8 /* Bytes of register fields of CH32V1 or CH32L1. */
+
+/* The numbers of crates/capi_v30x. */
+#define WONTABELI_V30X_CONFIG_SIZE 18 /* Bytes of a configuration of CH32V30x. */
+#define WONTABELI_V30X_FIELDS_SIZE 9 /* Bytes of register fields of CH32V30x. */
+
+/* The fields of a profile, by their place. */
+#define WONTABELI_PROFILE_HSE_PRESENT 0
+#define WONTABELI_PROFILE_HSE_BYPASS 1
+#define WONTABELI_PROFILE_HSE_FREQUENCY 2
+#define WONTABELI_PROFILE_SYSTEM_CLOCK 6
+#define WONTABELI_PROFILE_PLL_SOURCE 7
+#define WONTABELI_PROFILE_PLL_PRESENT 8
+#define WONTABELI_PROFILE_MULTIPLIER 9
+#define WONTABELI_PROFILE_SYSPLL_SOURCE 10
+#define WONTABELI_PROFILE_SYSPLL_DIVISOR_LESS_ONE 11
+#define WONTABELI_PROFILE_USBHS_PRESENT 12
+#define WONTABELI_PROFILE_USBHS_SOURCE 13
+#define WONTABELI_PROFILE_ETH_PLL 14
+#define WONTABELI_PROFILE_AHB 15
+#define WONTABELI_PROFILE_APB1 16
+#define WONTABELI_PROFILE_APB2 17
+#define WONTABELI_PROFILE_RNG 18
+#define WONTABELI_PROFILE_ADC_FROM_USBHS 19
+#define WONTABELI_PROFILE_ADC_DIVISOR 20
+#define WONTABELI_PROFILE_ADC_PRESCALER 21
+#define WONTABELI_PROFILE_DUTY 22
+#define WONTABELI_PROFILE_FILLING 23
+
+/* The fields of an image, by their place. */
+#define WONTABELI_IMAGE_HSION 0
+#define WONTABELI_IMAGE_HSEBYP 1
+#define WONTABELI_IMAGE_HSEON 2
+#define WONTABELI_IMAGE_CSSON 3
+#define WONTABELI_IMAGE_PLLON 4
+#define WONTABELI_IMAGE_USBHS_PLLON 5
+#define WONTABELI_IMAGE_ETH_PLLON 6
+#define WONTABELI_IMAGE_HSIRDY 7
+#define WONTABELI_IMAGE_HSERDY 8
+#define WONTABELI_IMAGE_PLLRDY 9
+#define WONTABELI_IMAGE_USBHS_PLLRDY 10
+#define WONTABELI_IMAGE_ETH_PLLRDY 11
+#define WONTABELI_IMAGE_SWS 12
+#define WONTABELI_IMAGE_SW 13
+#define WONTABELI_IMAGE_PLLSRC 14
+#define WONTABELI_IMAGE_PLLMUL 15
+#define WONTABELI_IMAGE_HPRE 16
+#define WONTABELI_IMAGE_PPRE1 17
+#define WONTABELI_IMAGE_PPRE2 18
+#define WONTABELI_IMAGE_ADCPRE 19
+#define WONTABELI_IMAGE_ADCSRC 20
+#define WONTABELI_IMAGE_ADC_DUTY 21
+#define WONTABELI_IMAGE_USBHSPLLSRC 22
+#define WONTABELI_IMAGE_USBHSPLLCLK 23
+#define WONTABELI_IMAGE_SYSPLLSRC 24
+#define WONTABELI_IMAGE_SYSPLLDIV 25
+#define WONTABELI_IMAGE_SYSPLL_GATE 26
+#define WONTABELI_IMAGE_RNGSRC 27
+#define WONTABELI_IMAGE_I2SPLLSRC 28
+#define WONTABELI_IMAGE_ADC_CLKDIV 29
+#define WONTABELI_IMAGE_SCKMOD 30
+#define WONTABELI_IMAGE_LOCK 31
+#define WONTABELI_IMAGE_FLOCK 32
+#define WONTABELI_IMAGE_FILLING 33
+
+#endif
