@@ -77,6 +77,8 @@
 #define WONTABELI_ETH_PLLRDY 16 /* The ETH PLL is ready. */
 #define WONTABELI_SWS 32 /* SWS, two bits: its value times this. */
 #define WONTABELI_SCKMOD 128 /* SCKMOD, two bits: its value times this. */
+
+/* The numbers of crates/capi_owed. */
 #define WONTABELI_KEYR 0 /* The register of the first two keys, KEYR. */
 #define WONTABELI_MODEKEYR 1 /* The register of the other two, MODEKEYR. */
 

@@ -68,6 +68,8 @@ pub const ETH_PLLRDY: u16 = 16;
 pub const SWS: u16 = 32;
 /// SCKMOD, two bits: its value times this.
 pub const SCKMOD: u16 = 128;
+
+// The numbers of crates/capi_owed.
 /// The register of the first two keys, KEYR.
 pub const KEYR: u32 = 0;
 /// The register of the other two, MODEKEYR.

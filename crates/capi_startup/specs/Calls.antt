@@ -10,9 +10,7 @@ use Rattle.startup.specs.declared.Reading.{Reading}
 use Rattle.startup.specs.declared.Report.the-variants.{Worked}
 use Rattle.startup.specs.declared.Startup.{Startup}
 use Rattle.startup.specs.declared.Stepped.{Stepped}
-use Rattle.startup.specs.declared.FlashKey.{FlashKey}
-use Rattle.startup.specs.declared.FlashKey.the-variants.{Keyr, ModeKeyr, NoKey}
-use Rattle.startup.specs.Call.{numberOf, startOf, stepOf, keyOf, waitsOwed, callBound}
+use Rattle.startup.specs.Call.{numberOf, startOf, stepOf}
 use Rattle.capi_startup.specs.declared.Called.{Called}
 use Rattle.capi_startup.specs.declared.Called.the-variants as called
 use Rattle.capi_startup.specs.Kept.{keptOf, placeOf}
@@ -61,23 +59,3 @@ stepBytes l w = do
 abbrev pub calledOf : Called → Answer Stepped
 calledOf (called.Is x) = gives x
 calledOf (called.Refused n) = refuses n
-
--- a key's register, 0 KEYR or 1 MODEKEYR, and the key; 28 behind the last
-abbrev pub keyWords : FlashKey → Answer (ℕ × ℕ)
-keyWords (Keyr key) = gives (0, key)
-keyWords (ModeKeyr key) = gives (1, key)
-keyWords NoKey = refuses 28
-
-abbrev pub keyRead : ℕ → Answer (ℕ × ℕ)
-keyRead position = keyWords (keyOf position)
-
--- the waits owed and the bound of the calls: 29, 30
-unfoldable pub waitsRead : List ℕ → Answer ℕ
-waitsRead p = do
-  c ← readProfile p
-  gives (waitsOwed c)
-
-unfoldable pub callsRead : List ℕ → Answer ℕ
-callsRead p = do
-  c ← readProfile p
-  gives (callBound c)

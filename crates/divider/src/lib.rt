@@ -2,7 +2,7 @@
 ghost use mathlib.Core.Path.{_≡_};
 ghost use Prim.Native.Nat.{_+_, _/_, _<_, _≤_};
 ghost use Rattle.answer.specs.Said.{replied};
-ghost use Rattle.divider.specs.Divide.{rowOf, ahbDivisor, apbDivisor, fpreDivisor, ahbOf, apbOf, byAhbOf, byApbOf};
+ghost use Rattle.divider.specs.Divide.{ahbDivisor, apbDivisor, fpreDivisor, ahbOf, apbOf, byAhbOf, byApbOf};
 ghost use Rattle.divider.specs.Laws.{ShiftFor};
 use answer::Reply;
 
@@ -21,34 +21,26 @@ const AHB_SHIFTS: [[u8; 16]; 4] = [
     [0, 0, 0, 0, 0, 0, 0, 0, 1, 2, 3, 4, 6, 7, 8, 9], // H4
 ];
 
-const APB_SHIFTS: [u8; 8] = [0, 0, 0, 0, 1, 2, 3, 4];
-
 const FPRE_DIVISORS: [u32; 4] = [1, 2, 4, 4];
 
-fn row_of(family: Family) -> usize
-    ensures { λ r. ⌜ (r ≡ rowOf family) × (r < 4) ⌝ }
-{
-    match family {
-        Family::V4x7 => 0,
-        Family::V1 => 1,
-        Family::V30x => 2,
-        Family::H4 => 3,
-    }
-}
-
+// Each row is named where it is read: a row that is looked up makes the compiler copy the whole table first.
 fn ahb_shift(family: Family, code: usize) -> u8
     requires { ⌜ code < 16 ⌝ }
     ensures { λ r. ⌜ ShiftFor (ahbDivisor family code) r ⌝ }
 {
-    let row = row_of(family);
-    AHB_SHIFTS[row][code]
+    match family {
+        Family::V4x7 => AHB_SHIFTS[0][code],
+        Family::V1 => AHB_SHIFTS[1][code],
+        Family::V30x => AHB_SHIFTS[2][code],
+        Family::H4 => AHB_SHIFTS[3][code],
+    }
 }
 
-fn apb_shift(code: usize) -> u8
+fn apb_shift(code: u8) -> u8
     requires { ⌜ code < 8 ⌝ }
     ensures { λ r. ⌜ ShiftFor (apbDivisor code) r ⌝ }
 {
-    APB_SHIFTS[code]
+    if code < 4 { 0 } else { code - 3 }
 }
 
 // The AHB divisor of a code of four bits.
@@ -68,7 +60,7 @@ pub fn apb(code: u8) -> Reply
     if 8 <= code {
         return Reply::Refused(answer::CODE_NOT_ALLOWED);
     }
-    Reply::Is(1u32 << apb_shift(code as usize))
+    Reply::Is(1u32 << apb_shift(code))
 }
 
 // The divisor of H4's FPRE: the low two bits of the code alone.

@@ -8,10 +8,10 @@ use lib.Dec.{eqb, eqb→eq}
 use lib.ListN.{getD}
 use Rattle.answer.specs.Answer.{Answer, gives, refuses, _>>=_}
 use Rattle.divider.specs.declared.Family.the-variants.{H4}
-use Rattle.divider.specs.Divide.{apbOf, byApbOf}
+use Rattle.divider.specs.Divide.{apbOf, byApbOf, byAhbOf, ahbOf, ahbDivisor, ahbDivisors, apbDivisor}
 use Rattle.divider.specs.Table.{at}
-use Rattle.tree.specs.Tree.{busOf, timerClock}
-use Rattle.h4.specs.H4.{doubles, pclkOf}
+use Rattle.tree.specs.Tree.{busOf, timerClock, belowOf}
+use Rattle.h4.specs.H4.{doubles, pclkOf, prescaledOf}
 
 -- the multipliers that 003's list names, in tenths: MUL4, MUL6, MUL7, MUL8, MUL8_5, ..
 abbrev pub tenths : List ℕ
@@ -57,3 +57,12 @@ timer hclk (refuses n) = refl
 pub bus-is : (hclk c : ℕ) → busOf H4 hclk c ≡ pclkOf hclk c
 unfolding busOf pclkOf byApbOf
 bus-is hclk c = timer hclk (apbOf c)
+
+-- 400 MHz with four different codes: HPRE 8 by 2 is the AHB clock, FPRE 2 by 4 HCLK, PPRE1 4 by 2 and PPRE2 5 by 4 the buses, their timers as they are
+pub worked : prescaledOf 400000000 (record { hpre = 8; fpre = 2; ppre1 = 4; ppre2 = 5 }) ≡
+    gives (
+      200000000,
+      record { sysclk = 400000000; hclk = 50000000; pclk1 = 25000000; pclk2 = 12500000; «pclk1_tim» = 25000000; «pclk2_tim» = 12500000 },
+    )
+unfolding prescaledOf byAhbOf ahbOf ahbDivisor ahbDivisors belowOf busOf timerClock byApbOf apbOf apbDivisor
+worked = refl

@@ -81,23 +81,22 @@ fn named_hspll(hspll: HsPll) -> bool
 }
 
 // Whether each code of a configuration, used or not, has a name in the Rust: 28 otherwise. The startup asks this too.
+// Tests that cost less than a jump are joined by `&`.
 pub fn named_codes(c: Config) -> bool
     ensures { λ r. ⌜ r ≡ namedOf c ⌝ }
 {
     let pll = c.pll;
     let hspll = c.hspll;
     named_pll(pll)
-        & named_hspll(hspll)
-        & (c.sys <= 2)
-        & (c.pll_src <= 1)
-        & ((c.syspll_src <= 3) | (c.syspll_src == 6))
-        & (c.syspll_pre <= 7)
-        & ((c.ahb_pre == 0) | ((8 <= c.ahb_pre) & (c.ahb_pre <= 15)))
-        & ((c.apb1_pre == 0) | ((4 <= c.apb1_pre) & (c.apb1_pre <= 7)))
-        & ((c.apb2_pre == 0) | ((4 <= c.apb2_pre) & (c.apb2_pre <= 7)))
-        & (c.rng_src <= 2)
-        & (c.adc_pre <= 3)
-        & (c.adc_duty <= 2)
+        && named_hspll(hspll)
+        && (c.sys <= 2)
+            & (c.pll_src <= 1)
+            & ((c.syspll_src <= 3) | (c.syspll_src == 6))
+            & (c.syspll_pre <= 7)
+        && ((c.ahb_pre == 0) | ((8 <= c.ahb_pre) & (c.ahb_pre <= 15)))
+        && ((c.apb1_pre == 0) | ((4 <= c.apb1_pre) & (c.apb1_pre <= 7)))
+        && ((c.apb2_pre == 0) | ((4 <= c.apb2_pre) & (c.apb2_pre <= 7)))
+        && (c.rng_src <= 2) & (c.adc_pre <= 3) & (c.adc_duty <= 2)
 }
 
 fn no_hspll(hspll: HsPll) -> bool
@@ -118,10 +117,13 @@ fn no_pll(pll: Pll) -> bool
     }
 }
 
-// The RNG's PLL is configured.
+// The RNG's PLL is configured; SYSCLK needs none.
 fn rng(source: u8, hspll: HsPll, ethpll: bool) -> Outcome
     ensures { λ r. ⌜ done r ≡ rngOf source hspll ethpll ⌝ }
 {
+    if source == 0 {
+        return Outcome::Done;
+    }
     let missing = no_hspll(hspll);
     if (source == 1) & missing {
         return Outcome::Refused(answer::RNG_WITHOUT_USBHS);
@@ -232,9 +234,11 @@ fn sources(c: Config) -> Reply
 fn syspll_input(main: u32, pll: Pll, hspll: HsPll, ethpll: bool, source: u8) -> Reply
     ensures { λ r. ⌜ replied r ≡ inputOf main pll hspll ethpll source ⌝ }
 {
-    let no_main = no_pll(pll);
-    if (source == 6) & no_main {
-        return Reply::Refused(answer::SYSPLL_WITHOUT_PLL);
+    if source == 6 {
+        if no_pll(pll) {
+            return Reply::Refused(answer::SYSPLL_WITHOUT_PLL);
+        }
+        return v4x7_rules::syspll_input(source, main);
     }
     let no_usbhs = no_hspll(hspll);
     if ((source == 0) | (source == 2)) & no_usbhs {

@@ -1,16 +1,17 @@
 -- Laws of the rules, which callers use in place of their text.
 -- Assumes nothing.
-use mathlib.Core.Path.{_≡_, subst}
+use mathlib.Core.Path.{_≡_, refl, subst}
 use Prim.Native.Nat.{ℕ, _+_, _*_, _<_}
 use native.Mathlib.Omega.{arith}
 use borrow.Author.Tests.{leb-false}
 use lib.Dec.{leb}
-use Rattle.answer.specs.Answer.{Answer, gives, _>>=_, bound, passed}
+use Rattle.answer.specs.Answer.{Answer, gives, refuses, _>>=_, bound, passed}
 use Rattle.divider.specs.declared.Family.the-variants.{V4x7}
-use Rattle.divider.specs.Divide.{ahbOf, apbOf}
+use Rattle.divider.specs.Divide.{ahbOf, ahbDivisor, ahbDivisors, apbOf, apbDivisor, byAhbOf, byApbOf}
 use Rattle.divider.specs.Facts.{Between, times}
 use Rattle.divider.specs.Laws.{ahb-given, apb-given}
-use Rattle.v4x7_rules.specs.Rules.{totalOf, adcFromHclkOf, adcFromUsbHsOf}
+use Rattle.tree.specs.Tree.{clocksOf, belowOf, busOf, timerClock}
+use Rattle.v4x7_rules.specs.Rules.{busesOf, totalOf, adcFromHclkOf, adcFromUsbHsOf}
 
 -- the ADC's own divisor
 own : (adcpre : ℕ) → adcpre < 4 → Between 8 (2 * (adcpre + 1))
@@ -40,3 +41,8 @@ hclk-given sys hpre ppre2 adcpre {x} q =
     let b = bound (totalOf (a .value) ppre2 adcpre) (λ t. gives (sys, t)) (a .after) in
     let same : b .value ≡ x .1 = cc (b .after) in
     subst (Between 65536) same (total-given ppre2 adcpre (ahb-given V4x7 hpre (a .gave)) (b .gave))
+
+-- HCLK above 200 MHz is refused from the first hertz on, though no configuration comes to that one
+pub hclk-limit : busesOf 200000001 0 0 0 ≡ refuses 12
+unfolding busesOf clocksOf belowOf busOf timerClock byAhbOf ahbOf ahbDivisor ahbDivisors byApbOf apbOf apbDivisor
+hclk-limit = refl

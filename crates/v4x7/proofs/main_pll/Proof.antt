@@ -24,7 +24,6 @@ returns-2 : tie.Need-returns-2
 unfolding mainOf
 returns-2 c =
     let pll = c .before .before .before .pll in
-    let pll = pll in
     simp (pll .given .1, sym (c .before .needed-hse .ensures), c .main-pll .ensures)
 
 pub main-pll-spec : {M : Type 1} → statement M

@@ -50,16 +50,16 @@ enum-told-3 c = search needs
 returns-3 : tie.Need-returns-3
 unfolding sourcesOf
 returns-3 c =
-    let rng = c .before .before .before .before .before .before .before .before .rng in
-    let enum-told = c .before .before .before .before .before .before .enum-told in
-    let hse-present = c .before .before .before .before .before .hse-present in
-    let enum-told2 = c .before .before .before .enum-told2 in
-    let main-pll = c .before .before .main-pll in
+    let at-main-pll = c .before .before in
+    let at-enum-told2 = at-main-pll .before in
+    let at-hse-present = at-enum-told2 .before .before in
+    let at-enum-told = at-hse-present .before in
+    let at-rng = at-enum-told .before .before in
     simp (
-      told done (rng .ensures) (enum-told .given .1),
-      told done (hse-present .ensures) (enum-told2 .given .1),
-      main-pll .ensures,
-      told replied (main-pll .ensures) (c .enum-told3 .given .1),
+      told done (at-rng .rng .ensures) (at-enum-told .enum-told .given .1),
+      told done (at-hse-present .hse-present .ensures) (at-enum-told2 .enum-told2 .given .1),
+      at-main-pll .main-pll .ensures,
+      told replied (at-main-pll .main-pll .ensures) (c .enum-told3 .given .1),
     )
 
 eth-requires : tie.Need-eth-requires
@@ -71,18 +71,18 @@ enum-known-n-3 c = search needs
 returns-4 : tie.Need-returns-4
 unfolding sourcesOf
 returns-4 c =
-    let rng = c .before .before .before .before .before .before .before .before .before .before .before .before .before .rng in
-    let enum-told = c .before .before .before .before .before .before .before .before .before .before .before .enum-told in
-    let hse-present = c .before .before .before .before .before .before .before .before .before .before .hse-present in
-    let enum-told2 = c .before .before .before .before .before .before .before .before .enum-told2 in
-    let main-pll = c .before .before .before .before .before .before .before .main-pll in
-    let main = c .before .before .before .before .before .main in
-    let eth = c .before .before .before .eth in
+    let at-eth = c .before .before .before in
+    let at-main = at-eth .before .before in
+    let at-main-pll = at-main .before .before in
+    let at-enum-told2 = at-main-pll .before in
+    let at-hse-present = at-enum-told2 .before .before in
+    let at-enum-told = at-hse-present .before in
+    let at-rng = at-enum-told .before .before in
     simp (
-      told done (rng .ensures) (enum-told .given .1),
-      told done (hse-present .ensures) (enum-told2 .given .1),
-      told replied (main-pll .ensures) (main .given .1),
-      told done (eth .ensures) (c .before .n3 .given .1),
+      told done (at-rng .rng .ensures) (at-enum-told .enum-told .given .1),
+      told done (at-hse-present .hse-present .ensures) (at-enum-told2 .enum-told2 .given .1),
+      told replied (at-main-pll .main-pll .ensures) (at-main .main .given .1),
+      told done (at-eth .eth .ensures) (c .before .n3 .given .1),
     )
 
 enum-told-4 : tie.Need-enum-told-4
@@ -97,30 +97,21 @@ enum-known-n-4 c = search needs
 returns-5 : tie.Need-returns-5
 unfolding sourcesOf
 returns-5 c =
-    let rng = c .before .before .before .before .before .before .before .before .before .before .before .before .before .before .before .before .rng in
-    let enum-told = c .before .before .before .before .before .before .before .before .before .before .before .before .before .before .enum-told in
-    let hse-present = c .before .before .before .before .before .before .before .before .before .before .before .before .before .hse-present in
-    let enum-told2 = c .before .before .before .before .before .before .before .before .before .before .before .enum-told2 in
-    let main-pll = c .before .before .before .before .before .before .before .before .before .before .main-pll in
-    let main = c .before .before .before .before .before .before .before .before .main in
-    let eth = c .before .before .before .before .before .before .eth in
-    let enum-told4 = c .before .before .before .before .enum-told4 in
-    let usbhs = c .before .before .before .usbhs in
-    let rng = rng in
-    let enum-told = enum-told in
-    let hse-present = hse-present in
-    let enum-told2 = enum-told2 in
-    let main-pll = main-pll in
-    let main = main in
-    let eth = eth in
-    let enum-told4 = enum-told4 in
-    let usbhs = usbhs in
+    let at-usbhs = c .before .before .before in
+    let at-enum-told4 = at-usbhs .before in
+    let at-eth = at-enum-told4 .before .before in
+    let at-main = at-eth .before .before in
+    let at-main-pll = at-main .before .before in
+    let at-enum-told2 = at-main-pll .before in
+    let at-hse-present = at-enum-told2 .before .before in
+    let at-enum-told = at-hse-present .before in
+    let at-rng = at-enum-told .before .before in
     simp (
-      told done (rng .ensures) (enum-told .given .1),
-      told done (hse-present .ensures) (enum-told2 .given .1),
-      told replied (main-pll .ensures) (main .given .1),
-      told done (eth .ensures) (enum-told4 .given .1),
-      told done (usbhs .ensures) (c .before .n4 .given .1),
+      told done (at-rng .rng .ensures) (at-enum-told .enum-told .given .1),
+      told done (at-hse-present .hse-present .ensures) (at-enum-told2 .enum-told2 .given .1),
+      told replied (at-main-pll .main-pll .ensures) (at-main .main .given .1),
+      told done (at-eth .eth .ensures) (at-enum-told4 .enum-told4 .given .1),
+      told done (at-usbhs .usbhs .ensures) (c .before .n4 .given .1),
     )
 
 enum-told-5 : tie.Need-enum-told-5
@@ -129,30 +120,21 @@ enum-told-5 c = search needs
 returns-6 : tie.Need-returns-6
 unfolding sourcesOf
 returns-6 c =
-    let rng = c .before .before .before .before .before .before .before .before .before .before .before .before .before .before .before .rng in
-    let enum-told = c .before .before .before .before .before .before .before .before .before .before .before .before .before .enum-told in
-    let hse-present = c .before .before .before .before .before .before .before .before .before .before .before .before .hse-present in
-    let enum-told2 = c .before .before .before .before .before .before .before .before .before .before .enum-told2 in
-    let main-pll = c .before .before .before .before .before .before .before .before .before .main-pll in
-    let main = c .before .before .before .before .before .before .before .main in
-    let eth = c .before .before .before .before .before .eth in
-    let enum-told4 = c .before .before .before .enum-told4 in
-    let usbhs = c .before .before .usbhs in
-    let rng = rng in
-    let enum-told = enum-told in
-    let hse-present = hse-present in
-    let enum-told2 = enum-told2 in
-    let main-pll = main-pll in
-    let main = main in
-    let eth = eth in
-    let enum-told4 = enum-told4 in
-    let usbhs = usbhs in
+    let at-usbhs = c .before .before in
+    let at-enum-told4 = at-usbhs .before in
+    let at-eth = at-enum-told4 .before .before in
+    let at-main = at-eth .before .before in
+    let at-main-pll = at-main .before .before in
+    let at-enum-told2 = at-main-pll .before in
+    let at-hse-present = at-enum-told2 .before .before in
+    let at-enum-told = at-hse-present .before in
+    let at-rng = at-enum-told .before .before in
     simp (
-      told done (rng .ensures) (enum-told .given .1),
-      told done (hse-present .ensures) (enum-told2 .given .1),
-      told replied (main-pll .ensures) (main .given .1),
-      told done (eth .ensures) (enum-told4 .given .1),
-      told done (usbhs .ensures) (c .enum-told5 .given .1),
+      told done (at-rng .rng .ensures) (at-enum-told .enum-told .given .1),
+      told done (at-hse-present .hse-present .ensures) (at-enum-told2 .enum-told2 .given .1),
+      told replied (at-main-pll .main-pll .ensures) (at-main .main .given .1),
+      told done (at-eth .eth .ensures) (at-enum-told4 .enum-told4 .given .1),
+      told done (at-usbhs .usbhs .ensures) (c .enum-told5 .given .1),
     )
 
 pub sources-spec : {M : Type 1} → statement M

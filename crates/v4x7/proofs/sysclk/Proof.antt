@@ -17,7 +17,6 @@ returns-2 : tie.Need-returns-2
 unfolding sysclkOf
 returns-2 c =
     let if1 = c .before .before .before .if1 in
-    let if1 = if1 in
     simp (ne-eqb _ _ (if1 .left), eq-eqb _ _ (c .before .if2 .taken), c .needed-hse .ensures)
 
 syspll-input-requires : tie.Need-syspll-input-requires

@@ -55,18 +55,18 @@ refusal-requires-2 c κs = search needs
 returns-3 : tie.Need-returns-3
 unfolding checkOf
 returns-3 c =
-    let named-codes = c .before .before .before .before .before .before .before .before .before .named-codes in
-    let if1 = c .before .before .before .before .before .before .before .before .if1 in
-    let sources = c .before .before .before .before .before .before .before .sources in
-    let sourced = c .before .before .before .before .before .sourced in
-    let sysclk = c .before .before .before .sysclk in
+    let at-sysclk = c .before .before .before in
+    let at-sourced = at-sysclk .before .before in
+    let at-sources = at-sourced .before .before in
+    let at-if1 = at-sources .before in
+    let at-named-codes = at-if1 .before in
     simp (
-      sym (named-codes .ensures),
-      if1 .left,
-      told replied (sources .ensures) (sourced .given .1),
+      sym (at-named-codes .named-codes .ensures),
+      at-if1 .if1 .left,
+      told replied (at-sources .sources .ensures) (at-sourced .sourced .given .1),
       c .refusal2 .ensures,
       c .before .enum-told2 .given .1,
-      told replied (sysclk .ensures) (c .before .enum-told2 .given .1),
+      told replied (at-sysclk .sysclk .ensures) (c .before .enum-told2 .given .1),
     )
 
 bus-clocks-requires : tie.Need-bus-clocks-requires
@@ -93,88 +93,63 @@ refusal-requires-3 c κs = search needs
 returns-4 : tie.Need-returns-4
 unfolding checkOf
 returns-4 c =
-    let named-codes = c .before .before .before .before .before .before .before .before .before .before .before .before .before .before .before .before .before .named-codes in
-    let if1 = c .before .before .before .before .before .before .before .before .before .before .before .before .before .before .before .before .if1 in
-    let sources = c .before .before .before .before .before .before .before .before .before .before .before .before .before .before .before .sources in
-    let sourced = c .before .before .before .before .before .before .before .before .before .before .before .before .before .sourced in
-    let sysclk = c .before .before .before .before .before .before .before .before .before .before .before .sysclk in
-    let system = c .before .before .before .before .before .before .before .before .before .system in
-    let bus-clocks = c .before .before .before .before .before .before .before .bus-clocks in
-    let clocks-at = c .before .before .before .before .before .clocks in
-    let adc = c .before .before .before .adc in
-    let named-codes = named-codes in
-    let if1 = if1 in
-    let sources = sources in
-    let sourced = sourced in
-    let sysclk = sysclk in
-    let system = system in
-    let bus-clocks = bus-clocks in
-    let clocks-at = clocks-at in
-    let adc = adc in
+    let at-adc = c .before .before .before in
+    let at-clocks = at-adc .before .before in
+    let at-bus-clocks = at-clocks .before .before in
+    let at-system = at-bus-clocks .before .before in
+    let at-sysclk = at-system .before .before in
+    let at-sourced = at-sysclk .before .before in
+    let at-sources = at-sourced .before .before in
+    let at-if1 = at-sources .before in
+    let at-named-codes = at-if1 .before in
     simp (
-      sym (named-codes .ensures),
-      if1 .left,
-      told replied (sources .ensures) (sourced .given .1),
-      told replied (sysclk .ensures) (system .given .1),
-      told running (bus-clocks .ensures) (clocks-at .given .1),
+      sym (at-named-codes .named-codes .ensures),
+      at-if1 .if1 .left,
+      told replied (at-sources .sources .ensures) (at-sourced .sourced .given .1),
+      told replied (at-sysclk .sysclk .ensures) (at-system .system .given .1),
+      told running (at-bus-clocks .bus-clocks .ensures) (at-clocks .clocks .given .1),
       c .refusal3 .ensures,
       c .before .enum-told3 .given .1,
-      told replied (adc .ensures) (c .before .enum-told3 .given .1),
+      told replied (at-adc .adc .ensures) (c .before .enum-told3 .given .1),
     )
 
 returns-5 : tie.Need-returns-5
 unfolding checkOf
 returns-5 c =
-    let named-codes = c .before .before .before .before .before .before .before .before .before .before .before .before .before .named-codes in
-    let if1 = c .before .before .before .before .before .before .before .before .before .before .before .before .if1 in
-    let sources = c .before .before .before .before .before .before .before .before .before .before .before .sources in
-    let sourced = c .before .before .before .before .before .before .before .before .before .sourced in
-    let sysclk = c .before .before .before .before .before .before .before .sysclk in
-    let system = c .before .before .before .before .before .system in
-    let bus-clocks = c .before .before .before .bus-clocks in
-    let named-codes = named-codes in
-    let if1 = if1 in
-    let sources = sources in
-    let sourced = sourced in
-    let sysclk = sysclk in
-    let system = system in
-    let bus-clocks = bus-clocks in
+    let at-bus-clocks = c .before .before .before in
+    let at-system = at-bus-clocks .before .before in
+    let at-sysclk = at-system .before .before in
+    let at-sourced = at-sysclk .before .before in
+    let at-sources = at-sourced .before .before in
+    let at-if1 = at-sources .before in
+    let at-named-codes = at-if1 .before in
     simp (
-      sym (named-codes .ensures),
-      if1 .left,
-      told replied (sources .ensures) (sourced .given .1),
-      told replied (sysclk .ensures) (system .given .1),
-      told running (bus-clocks .ensures) (c .before .n .given .1),
+      sym (at-named-codes .named-codes .ensures),
+      at-if1 .if1 .left,
+      told replied (at-sources .sources .ensures) (at-sourced .sourced .given .1),
+      told replied (at-sysclk .sysclk .ensures) (at-system .system .given .1),
+      told running (at-bus-clocks .bus-clocks .ensures) (c .before .n .given .1),
     )
 
 returns-6 : tie.Need-returns-6
 unfolding checkOf
 returns-6 c =
-    let named-codes = c .before .before .before .before .before .before .before .before .before .before .before .before .before .before .before .before .before .named-codes in
-    let if1 = c .before .before .before .before .before .before .before .before .before .before .before .before .before .before .before .before .if1 in
-    let sources = c .before .before .before .before .before .before .before .before .before .before .before .before .before .before .before .sources in
-    let sourced = c .before .before .before .before .before .before .before .before .before .before .before .before .before .sourced in
-    let sysclk = c .before .before .before .before .before .before .before .before .before .before .before .sysclk in
-    let system = c .before .before .before .before .before .before .before .before .before .system in
-    let bus-clocks = c .before .before .before .before .before .before .before .bus-clocks in
-    let clocks-at = c .before .before .before .before .before .clocks in
-    let adc = c .before .before .before .adc in
-    let named-codes = named-codes in
-    let if1 = if1 in
-    let sources = sources in
-    let sourced = sourced in
-    let sysclk = sysclk in
-    let system = system in
-    let bus-clocks = bus-clocks in
-    let clocks-at = clocks-at in
-    let adc = adc in
+    let at-adc = c .before .before .before in
+    let at-clocks = at-adc .before .before in
+    let at-bus-clocks = at-clocks .before .before in
+    let at-system = at-bus-clocks .before .before in
+    let at-sysclk = at-system .before .before in
+    let at-sourced = at-sysclk .before .before in
+    let at-sources = at-sourced .before .before in
+    let at-if1 = at-sources .before in
+    let at-named-codes = at-if1 .before in
     simp (
-      sym (named-codes .ensures),
-      if1 .left,
-      told replied (sources .ensures) (sourced .given .1),
-      told replied (sysclk .ensures) (system .given .1),
-      told running (bus-clocks .ensures) (clocks-at .given .1),
-      told replied (adc .ensures) (c .before .sampled .given .1),
+      sym (at-named-codes .named-codes .ensures),
+      at-if1 .if1 .left,
+      told replied (at-sources .sources .ensures) (at-sourced .sourced .given .1),
+      told replied (at-sysclk .sysclk .ensures) (at-system .system .given .1),
+      told running (at-bus-clocks .bus-clocks .ensures) (at-clocks .clocks .given .1),
+      told replied (at-adc .adc .ensures) (c .before .sampled .given .1),
     )
 
 pub clocks-spec : {M : Type 1} → statement M

@@ -1,9 +1,9 @@
 use borrow.Author.Needs.{needs}
-use Rattle.capi_startup.specs.Calls.{waitsRead}
+use Rattle.capi_owed.specs.Owed.{waitsRead}
 use Rattle.profile.specs.Profile.{profileRead}
 use Rattle.answer.specs.Answer.{told}
-use Rattle.capi_startup.proofs.waits.Statement.{statement}
-use Rattle.capi_startup.proofs.waits.Tie as tie
+use Rattle.capi_owed.proofs.waits.Statement.{statement}
+use Rattle.capi_owed.proofs.waits.Tie as tie
 
 read-profile-requires : tie.Need-read-profile-requires
 read-profile-requires c κs = search needs

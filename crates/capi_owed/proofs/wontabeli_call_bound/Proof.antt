@@ -1,7 +1,7 @@
 use mathlib.Core.Path.{sym}
 use borrow.Author.Needs.{needs}
-use Rattle.capi_startup.proofs.wontabeli_call_bound.Statement.{statement}
-use Rattle.capi_startup.proofs.wontabeli_call_bound.Tie as tie
+use Rattle.capi_owed.proofs.wontabeli_call_bound.Statement.{statement}
+use Rattle.capi_owed.proofs.wontabeli_call_bound.Tie as tie
 
 calls-requires : tie.Need-calls-requires
 calls-requires c κs = search needs

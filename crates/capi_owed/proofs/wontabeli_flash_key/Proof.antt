@@ -2,8 +2,8 @@ use mathlib.Core.Path.{sym, ap}
 use borrow.Author.Needs.{needs}
 use Rattle.lent.specs.Giving.{carried}
 use Rattle.lent.specs.Given.{twoWords}
-use Rattle.capi_startup.proofs.wontabeli_flash_key.Statement.{statement}
-use Rattle.capi_startup.proofs.wontabeli_flash_key.Tie as tie
+use Rattle.capi_owed.proofs.wontabeli_flash_key.Statement.{statement}
+use Rattle.capi_owed.proofs.wontabeli_flash_key.Tie as tie
 
 key-requires : tie.Need-key-requires
 key-requires c κs = search needs

@@ -1,9 +1,9 @@
 use borrow.Author.Needs.{needs}
-use Rattle.capi_startup.specs.Calls.{callsRead}
+use Rattle.capi_owed.specs.Owed.{callsRead}
 use Rattle.profile.specs.Profile.{profileRead}
 use Rattle.answer.specs.Answer.{told}
-use Rattle.capi_startup.proofs.calls.Statement.{statement}
-use Rattle.capi_startup.proofs.calls.Tie as tie
+use Rattle.capi_owed.proofs.calls.Statement.{statement}
+use Rattle.capi_owed.proofs.calls.Tie as tie
 
 read-profile-requires : tie.Need-read-profile-requires
 read-profile-requires c κs = search needs

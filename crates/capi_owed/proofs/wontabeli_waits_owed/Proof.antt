@@ -1,7 +1,7 @@
 use mathlib.Core.Path.{sym}
 use borrow.Author.Needs.{needs}
-use Rattle.capi_startup.proofs.wontabeli_waits_owed.Statement.{statement}
-use Rattle.capi_startup.proofs.wontabeli_waits_owed.Tie as tie
+use Rattle.capi_owed.proofs.wontabeli_waits_owed.Statement.{statement}
+use Rattle.capi_owed.proofs.wontabeli_waits_owed.Tie as tie
 
 waits-requires : tie.Need-waits-requires
 waits-requires c κs = search needs

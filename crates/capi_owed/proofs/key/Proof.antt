@@ -1,8 +1,8 @@
 use mathlib.Core.Path.{sym, ap, _∙_}
 use borrow.Author.Needs.{needs}
-use Rattle.capi_startup.specs.Calls.{keyWords}
-use Rattle.capi_startup.proofs.key.Statement.{statement}
-use Rattle.capi_startup.proofs.key.Tie as tie
+use Rattle.capi_owed.specs.Owed.{keyWords}
+use Rattle.capi_owed.proofs.key.Statement.{statement}
+use Rattle.capi_owed.proofs.key.Tie as tie
 
 flash-key-requires : tie.Need-flash-key-requires
 flash-key-requires c κs = search needs

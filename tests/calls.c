@@ -1,0 +1,268 @@
+/* Every call of include/wontabeli.h, with answers worked by hand from document 01. Writes what is wrong and how many are right; status 1 where one is wrong. */
+#include <stdio.h>
+#include <string.h>
+#include "wontabeli.h"
+
+static int right, wrong;
+
+static void is(int line, unsigned long long found, unsigned long long wanted)
+{
+    if (found == wanted) {
+        right++;
+        return;
+    }
+    wrong++;
+    printf("tests/calls.c:%d: %llu, and not %llu\n", line, found, wanted);
+}
+
+#define IS(found, wanted) is(__LINE__, (found), (wanted))
+#define SAME(found, ...) do { static const uint8_t w_[] = {__VA_ARGS__}; IS(memcmp((found), w_, sizeof w_), 0); } while (0)
+
+static uint32_t out[WONTABELI_CHECK_WORDS];
+
+static void clocks(int line, uint32_t sysclk, uint32_t hclk, uint32_t pclk1, uint32_t pclk2, uint32_t pclk1_tim, uint32_t pclk2_tim)
+{
+    is(line, out[WONTABELI_SYSCLK], sysclk);
+    is(line, out[WONTABELI_HCLK], hclk);
+    is(line, out[WONTABELI_PCLK1], pclk1);
+    is(line, out[WONTABELI_PCLK2], pclk2);
+    is(line, out[WONTABELI_PCLK1_TIM], pclk1_tim);
+    is(line, out[WONTABELI_PCLK2_TIM], pclk2_tim);
+}
+
+/* HSE 8 MHz, main PLL by 12.5, system clock from it, USBHS PLL from HSI, AHB 8 (by 2), APB1 5 (by 4), APB2 4 (by 2), ADC from USBHS by 16, prescaler 4. */
+static void a_profile(uint8_t *f)
+{
+    memset(f, 0, WONTABELI_PROFILE_FIELDS);
+    f[WONTABELI_PROFILE_HSE_PRESENT] = 1;
+    f[WONTABELI_PROFILE_HSE_FREQUENCY + 1] = 0x7a;
+    f[WONTABELI_PROFILE_HSE_FREQUENCY + 2] = 0x12;
+    f[WONTABELI_PROFILE_SYSTEM_CLOCK] = 2;
+    f[WONTABELI_PROFILE_PLL_SOURCE] = 1;
+    f[WONTABELI_PROFILE_PLL_PRESENT] = 1;
+    f[WONTABELI_PROFILE_MULTIPLIER] = 5;
+    f[WONTABELI_PROFILE_SYSPLL_SOURCE] = 6;
+    f[WONTABELI_PROFILE_SYSPLL_DIVISOR_LESS_ONE] = 0;
+    f[WONTABELI_PROFILE_USBHS_PRESENT] = 1;
+    f[WONTABELI_PROFILE_USBHS_SOURCE] = 1;
+    f[WONTABELI_PROFILE_AHB] = 8;
+    f[WONTABELI_PROFILE_APB1] = 5;
+    f[WONTABELI_PROFILE_APB2] = 4;
+    f[WONTABELI_PROFILE_ADC_FROM_USBHS] = 1;
+    f[WONTABELI_PROFILE_ADC_DIVISOR] = 16;
+    f[WONTABELI_PROFILE_ADC_PRESCALER] = 1;
+    f[WONTABELI_PROFILE_DUTY] = 2;
+}
+
+static void profiles(void)
+{
+    uint8_t f[WONTABELI_PROFILE_FIELDS], g[WONTABELI_PROFILE_FIELDS], p[WONTABELI_PROFILE_SIZE + 1] = {0};
+    p[10] = 0xee;
+    a_profile(f);
+    IS(wontabeli_write_profile(f, sizeof f, p, sizeof p), 0);
+    /* 1 0 00000000 01111010 00010010 00000000 10 1 1 00101 110 000 1 01 0 1000 101 100 00 1 00010000 01 10 00 */
+    SAME(p, 0x80, 0x1e, 0x84, 0x80, 0x2c, 0xb8, 0x54, 0x58, 0x44, 0x18, 0xee);
+    IS(wontabeli_read_profile(p, 10, g, sizeof g), 0);
+    IS(memcmp(f, g, sizeof f), 0);
+    /* 100 MHz by 2, 4 and 2; the timers twice their bus; 480 MHz by 16 x 2 x 4 */
+    IS(wontabeli_check(p, 10, out, WONTABELI_CHECK_WORDS), 0);
+    clocks(__LINE__, 100000000, 50000000, 12500000, 25000000, 25000000, 50000000);
+    IS(out[WONTABELI_MORE], 3750000);
+    IS(wontabeli_waits_owed(p, 10, out), 0);
+    IS(out[0], 7);
+    IS(wontabeli_call_bound(p, 10, out), 0);
+    IS(out[0], 7000020);
+    IS(wontabeli_check(p, 10, out, 6), WONTABELI_OUTPUT_TOO_SHORT);
+    IS(wontabeli_check(p, 11, out, 7), WONTABELI_PROFILE_LENGTH);
+    IS(wontabeli_call_bound(p, 9, out), WONTABELI_PROFILE_LENGTH);
+    IS(out[0], 7000020);
+    f[WONTABELI_PROFILE_FILLING] = 1;
+    IS(wontabeli_write_profile(f, sizeof f, p, sizeof p), WONTABELI_PROFILE_CODE);
+    f[WONTABELI_PROFILE_FILLING] = 0;
+    f[WONTABELI_PROFILE_ETH_PLL] = 2;
+    IS(wontabeli_write_profile(f, sizeof f, p, sizeof p), WONTABELI_PROFILE_CODE);
+    f[WONTABELI_PROFILE_ETH_PLL] = 0;
+    f[WONTABELI_PROFILE_RNG] = 3;
+    IS(wontabeli_write_profile(f, sizeof f, p, sizeof p), WONTABELI_PROFILE_CODE);
+    f[WONTABELI_PROFILE_RNG] = 2;
+    IS(wontabeli_write_profile(f, sizeof f, p, sizeof p), 0);
+    IS(wontabeli_check(p, 10, out, 7), WONTABELI_RNG_WITHOUT_ETH);
+    f[WONTABELI_PROFILE_RNG] = 0;
+    f[WONTABELI_PROFILE_HSE_PRESENT] = 0;
+    f[WONTABELI_PROFILE_HSE_BYPASS] = 1;
+    IS(wontabeli_write_profile(f, sizeof f, p, 10), WONTABELI_PROFILE_CODE);
+    IS(wontabeli_write_profile(f, sizeof f, p, 9), WONTABELI_OUTPUT_TOO_SHORT);
+}
+
+static void images(void)
+{
+    uint8_t f[WONTABELI_IMAGE_FIELDS] = {0}, g[WONTABELI_IMAGE_FIELDS], i[WONTABELI_IMAGE_SIZE];
+    int n;
+    /* each field at its place: HSION is the first bit of all, FLOCK the sixth from the end */
+    f[WONTABELI_IMAGE_HSION] = f[WONTABELI_IMAGE_HSEON] = f[WONTABELI_IMAGE_ETH_PLLON] = f[WONTABELI_IMAGE_PLLRDY] = 1;
+    f[WONTABELI_IMAGE_SWS] = 1;
+    f[WONTABELI_IMAGE_SW] = 2;
+    f[WONTABELI_IMAGE_PLLMUL] = 17;
+    f[WONTABELI_IMAGE_HPRE] = 9;
+    f[WONTABELI_IMAGE_PPRE1] = 4;
+    f[WONTABELI_IMAGE_PPRE2] = 6;
+    f[WONTABELI_IMAGE_ADCPRE] = 1;
+    f[WONTABELI_IMAGE_ADC_DUTY] = 2;
+    f[WONTABELI_IMAGE_USBHSPLLCLK] = 1;
+    f[WONTABELI_IMAGE_SYSPLLDIV] = 5;
+    f[WONTABELI_IMAGE_RNGSRC] = 1;
+    f[WONTABELI_IMAGE_ADC_CLKDIV] = 19;
+    f[WONTABELI_IMAGE_SCKMOD] = 1;
+    f[WONTABELI_IMAGE_FLOCK] = 1;
+    IS(wontabeli_write_image(f, sizeof f, i, sizeof i), 0);
+    /* 1010001 00100 01 10 0 10001 1001 100 110 01 0 10 00 01 000 101 0 1 0 10011 01 0 1 00000 */
+    SAME(i, 0xa2, 0x46, 0x46, 0x66, 0x50, 0x8a, 0xa6, 0xa0);
+    IS(wontabeli_read_image(i, 8, g, sizeof g), 0);
+    IS(memcmp(f, g, sizeof f), 0);
+    /* SWS 1: HSE, 12 MHz by 4 (code 9), by 2, by 8 */
+    IS(wontabeli_decode(i, 8, 12000000, out, WONTABELI_CLOCKS_WORDS), 0);
+    clocks(__LINE__, 12000000, 3000000, 1500000, 375000, 3000000, 750000);
+    IS(wontabeli_decode(i, 8, 0, out, 6), WONTABELI_HSE_MISSING);
+    IS(wontabeli_decode(i, 8, 1, out, 6), WONTABELI_HSE_OUT_OF_RANGE);
+    /* the ADC from HCLK: 12 MHz by 4 x 8 x 4; the RNG from a PLL that is not ready */
+    IS(wontabeli_adc(i, 8, 12000000, out, WONTABELI_PAIR_WORDS), 0);
+    IS(out[0], 1);
+    IS(out[1], 93750);
+    IS(wontabeli_rng(i, 8, 12000000, out, 2), 0);
+    IS(out[0], 0);
+    IS(out[1], 0);
+    f[WONTABELI_IMAGE_USBHS_PLLRDY] = 1;
+    IS(wontabeli_write_image(f, sizeof f, i, sizeof i), 0);
+    IS(wontabeli_rng(i, 8, 12000000, out, 2), 0);
+    IS(out[0], 1);
+    IS(out[1], 480000000);
+    f[WONTABELI_IMAGE_I2SPLLSRC] = f[WONTABELI_IMAGE_ETH_PLLRDY] = f[WONTABELI_IMAGE_ADCSRC] = 1;
+    IS(wontabeli_write_image(f, sizeof f, i, sizeof i), 0);
+    IS(wontabeli_rng(i, 8, 12000000, out, 2), 0);
+    IS(out[1], 500000000);
+    /* and the ADC from USBHS: 480 MHz by 20 x 8 x 4 */
+    IS(wontabeli_adc(i, 8, 12000000, out, 2), 0);
+    IS(out[1], 750000);
+    i[7] |= 1;
+    IS(wontabeli_decode(i, 8, 12000000, out, 6), WONTABELI_IMAGE_LENGTH_OR_FILLING);
+    /* each field alone, to its greatest code and one beyond */
+    for (n = 0; n < WONTABELI_IMAGE_FIELDS; n++) {
+        static const uint8_t most[WONTABELI_IMAGE_FIELDS] = {1, 1, 1, 1, 1, 1, 1, 1, 1, 1, 1, 1, 3, 3, 1, 31, 15, 7, 7, 3, 1, 3, 3, 3, 7, 7, 1, 1, 1, 31, 3, 1, 1, 0};
+        memset(f, 0, sizeof f);
+        f[n] = most[n];
+        IS(wontabeli_write_image(f, sizeof f, i, sizeof i), 0);
+        f[n]++;
+        IS(wontabeli_write_image(f, sizeof f, i, sizeof i), WONTABELI_CODE_NOT_ALLOWED);
+    }
+}
+
+static void startups(void)
+{
+    static const uint32_t keys[4][2] = {
+        {WONTABELI_KEYR, 0x45670123}, {WONTABELI_KEYR, 0xCDEF89AB}, {WONTABELI_MODEKEYR, 0x45670123}, {WONTABELI_MODEKEYR, 0xCDEF89AB}};
+    static const uint8_t profile[10] = {0, 0, 0, 0, 0, 0x18, 0, 0, 0, 0x34}, image[8] = {0};
+    uint8_t place[WONTABELI_PLACE_SIZE + 1];
+    int n;
+    for (n = 0; n < 4; n++) {
+        IS(wontabeli_flash_key((uint8_t)n, out, WONTABELI_PAIR_WORDS), 0);
+        IS(out[0], keys[n][0]);
+        IS(out[1], keys[n][1]);
+    }
+    IS(wontabeli_flash_key(4, out, 2), WONTABELI_CODE_NOT_ALLOWED);
+    memset(place, 0xee, sizeof place);
+    IS(wontabeli_start(profile, 10, image, 8, place, 31), WONTABELI_OUTPUT_TOO_SHORT);
+    IS(wontabeli_start(profile, 10, image, 8, place, sizeof place), 0);
+    SAME(place, 0, 0, 0, 0, 0, 0x18, 0, 0, 0, 0x34, 0, 0, 0, 0, 0, 0, 0, 0, 1, 0, 0, 0, 0, 0, 0, 0, 0, 0, WONTABELI_WORKED, 0, 0, 0, 0xee);
+    /* step 1 writes HSION; then HSI is waited for, and read ready */
+    IS(wontabeli_step(place, sizeof place, 0), 0);
+    IS(place[WONTABELI_PLACE_IMAGE], 0x80);
+    IS(place[WONTABELI_PLACE_NAMED], 1);
+    IS(wontabeli_step(place, sizeof place, WONTABELI_SWS * 3), 0);
+    IS(place[WONTABELI_PLACE_WENT], WONTABELI_WAITING);
+    IS(place[WONTABELI_PLACE_UNMET + 3], 1);
+    IS(place[WONTABELI_PLACE_USED + 3], 1);
+    IS(wontabeli_step(place, sizeof place, WONTABELI_HSIRDY), 0);
+    IS(place[WONTABELI_PLACE_WENT], WONTABELI_WORKED);
+    IS(place[WONTABELI_PLACE_STEP], 3);
+    IS(place[WONTABELI_PLACE_USED + 3], 2);
+    IS(place[32], 0xee);
+    place[WONTABELI_PLACE_PHASE] = 7;
+    IS(wontabeli_step(place, sizeof place, 0), WONTABELI_CODE_NOT_ALLOWED);
+}
+
+static void families(void)
+{
+    /* V1: HSE 8 MHz by 2 (halved) times 9 is 36 MHz, APB1 by 2; not halved 72 MHz, USB by 1.5 */
+    uint8_t c[WONTABELI_V1_CONFIG_SIZE] = {1, 0, 0x00, 0x7a, 0x12, 0x00, 2, 1, 1, 1, 7, 0, 4, 0}, f[WONTABELI_V1_FIELDS_SIZE] = {0, 0, 0, 0, 0, 0, 0, 1};
+    uint8_t d[WONTABELI_V30X_CONFIG_SIZE] = {1, 0, 0x00, 0x7a, 0x12, 0x00, 2, 1, 1, 1, 0, 0, 8, 0, 4, 1, 1, 1}, g[WONTABELI_V30X_FIELDS_SIZE] = {0};
+    IS(wontabeli_v1_check(WONTABELI_V1_PART_V1, c, sizeof c, out, 7), 0);
+    clocks(__LINE__, 36000000, 36000000, 18000000, 36000000, 36000000, 36000000);
+    IS(out[WONTABELI_MORE], 0);
+    IS(wontabeli_v1_init_fields(0, c, sizeof c, f, sizeof f, f, 7), WONTABELI_OUTPUT_TOO_SHORT);
+    c[9] = 0;
+    IS(wontabeli_v1_check(1, c, sizeof c, out, 7), 0);
+    IS(out[WONTABELI_SYSCLK], 72000000);
+    IS(out[WONTABELI_MORE], 3);
+    c[9] = 1;
+    {
+        uint8_t h[WONTABELI_V1_FIELDS_SIZE];
+        IS(wontabeli_v1_init_fields(0, c, sizeof c, f, sizeof f, h, sizeof h), 0);
+        SAME(h, 2, 1, 1, 7, 0, 4, 0, 1);
+        IS(wontabeli_v1_decode(0, h, sizeof h, 8000000, out, 6), 0);
+        clocks(__LINE__, 36000000, 36000000, 18000000, 36000000, 36000000, 36000000);
+        IS(wontabeli_v1_decode(0, h, sizeof h, 0, out, 6), WONTABELI_HSE_MISSING);
+        /* code 15: V1 by 16, L1 by 18 */
+        h[3] = 15;
+        IS(wontabeli_v1_decode(1, h, sizeof h, 8000000, out, 6), 0);
+        IS(out[WONTABELI_SYSCLK], 72000000);
+    }
+    IS(wontabeli_v1_check(2, c, sizeof c, out, 7), WONTABELI_CODE_NOT_ALLOWED);
+    IS(wontabeli_v1_check(0, c, 13, out, 7), WONTABELI_CODE_NOT_ALLOWED);
+    /* V30x: HSE 8 MHz by 2 times 18 is 72 MHz, AHB by 2, APB2 by 2; USBHS from HSE by 2 is 4 MHz */
+    IS(wontabeli_v30x_check(d, sizeof d, out, 7), 0);
+    clocks(__LINE__, 72000000, 36000000, 36000000, 18000000, 36000000, 36000000);
+    IS(out[WONTABELI_MORE], 0);
+    {
+        uint8_t h[WONTABELI_V30X_FIELDS_SIZE];
+        IS(wontabeli_v30x_init_fields(d, sizeof d, g, sizeof g, h, sizeof h), 0);
+        SAME(h, 2, 1, 1, 0, 0, 8, 0, 4, 0);
+        IS(wontabeli_v30x_decode(h, sizeof h, 8000000, out, 6), 0);
+        clocks(__LINE__, 72000000, 36000000, 36000000, 18000000, 36000000, 36000000);
+        h[3] = 1;
+        IS(wontabeli_v30x_decode(h, sizeof h, 8000000, out, 6), WONTABELI_PLL2_OR_PLL3);
+    }
+    d[17] = 2;
+    IS(wontabeli_v30x_check(d, sizeof d, out, 7), WONTABELI_USBHS_REFERENCE);
+    d[11] = 1;
+    IS(wontabeli_v30x_check(d, sizeof d, out, 7), WONTABELI_PLL2_OR_PLL3);
+}
+
+static void h4(void)
+{
+    IS(wontabeli_h4_clocks(400000000, 8, 2, 4, 5, out, 7), 0);
+    clocks(__LINE__, 400000000, 50000000, 25000000, 12500000, 25000000, 12500000);
+    IS(out[WONTABELI_MORE], 200000000);
+    IS(wontabeli_h4_ahb(400000000, 12, out), 0);
+    IS(out[0], 6250000);
+    IS(wontabeli_h4_ahb(400000000, 16, out), WONTABELI_CODE_NOT_ALLOWED);
+    IS(wontabeli_h4_hclk(400000000, 7, out), 0);
+    IS(out[0], 100000000);
+    IS(wontabeli_h4_pclk(100000000, 6, out, 2), 0);
+    IS(out[0], 12500000);
+    IS(out[1], 12500000);
+    IS(wontabeli_h4_pclk(100000000, 6, out, 1), WONTABELI_OUTPUT_TOO_SHORT);
+    IS(wontabeli_h4_multiplier(4, out), 0);
+    IS(out[0], 17);
+    IS(wontabeli_h4_multiplier(32, out), WONTABELI_CODE_NOT_ALLOWED);
+}
+
+int main(void)
+{
+    profiles();
+    images();
+    startups();
+    families();
+    h4();
+    printf("calls: %d right, %d wrong\n", right, wrong);
+    return wrong != 0;
+}

@@ -1,0 +1,123 @@
+//! Every wrapper of bindings/rust, with answers worked by hand from document 01 (those of tests/calls.c). A wrong one panics.
+use std::num::NonZeroU32;
+use wontabeli::numbers::*;
+use wontabeli::*;
+
+fn clocks(sysclk: u32, hclk: u32, pclk1: u32, pclk2: u32, pclk1_tim: u32, pclk2_tim: u32) -> Clocks {
+    Clocks { sysclk, hclk, pclk1, pclk2, pclk1_tim, pclk2_tim }
+}
+
+fn profiles() {
+    let config = Config {
+        hse: Some(Hse { bypass: false, freq: 8_000_000 }),
+        sys: 2,
+        pll_src: 1,
+        pll: Some(5),
+        hspll: Some(1),
+        ahb_pre: 8,
+        apb1_pre: 5,
+        apb2_pre: 4,
+        adc_src: AdcClockSource::UsbHsPll { divisor: 16 },
+        adc_pre: 1,
+        adc_duty: 2,
+        ..Config::default()
+    };
+    let profile = config.to_profile().unwrap();
+    assert_eq!(profile, [0x80, 0x1e, 0x84, 0x80, 0x2c, 0xb8, 0x54, 0x58, 0x44, 0x18]);
+    assert_eq!(Config::from_profile(&profile), Ok(config));
+    let promised = check(&profile).unwrap();
+    assert_eq!(promised.clocks, clocks(100_000_000, 50_000_000, 12_500_000, 25_000_000, 25_000_000, 50_000_000));
+    assert_eq!(promised.adc, 3_750_000);
+    assert_eq!(waits_owed(&profile), Ok(7));
+    assert_eq!(call_bound(&profile), Ok(7_000_020));
+    // HSE 25 MHz bypassed, SYSPLL source 3 by 4, the ETH PLL, the RNG from it
+    let other = Config { hse: Some(Hse { bypass: true, freq: 25_000_000 }), syspll_src: 3, syspll_pre: 3, ethpll: true, rng_src: 2, ..Config::default() };
+    let profile = other.to_profile().unwrap();
+    assert_eq!(profile, [0xc0, 0x5f, 0x5e, 0x10, 0x00, 0x0d, 0x88, 0x01, 0x00, 0x34]);
+    assert_eq!(Config::from_profile(&profile), Ok(other));
+    assert_eq!(Config { ahb_pre: 7, ..other }.to_profile(), Err(Refusal::ProfileCode));
+    assert_eq!(Config::default().to_profile(), Ok([0, 0, 0, 0, 0, 0x18, 0, 0, 0, 0x34]));
+    assert_eq!(check(&profile[..9]), Err(Refusal::ProfileLength));
+    assert_eq!(Refusal::ProfileLength.number(), 29);
+}
+
+fn images() {
+    let image = [0xa2, 0x46, 0x46, 0x66, 0x50, 0x8a, 0xa6, 0xa0];
+    let mut fields = read_image(&image).unwrap();
+    assert_eq!((fields[IMAGE_SWS], fields[IMAGE_HPRE], fields[IMAGE_ADC_CLKDIV]), (1, 9, 19));
+    assert_eq!(write_image(&fields), Ok(image));
+    let hse = NonZeroU32::new(12_000_000);
+    assert_eq!(decode(&image, hse), Ok(clocks(12_000_000, 3_000_000, 1_500_000, 375_000, 3_000_000, 750_000)));
+    assert_eq!(decode(&image, None), Err(Refusal::HseMissing));
+    assert_eq!(adc_frequency(&image, 12_000_000), Ok(Some(93_750)));
+    assert_eq!(rng_source_frequency(&image, 12_000_000), Ok(None));
+    fields[IMAGE_USBHS_PLLRDY] = 1;
+    assert_eq!(rng_source_frequency(&write_image(&fields).unwrap(), 12_000_000), Ok(Some(480_000_000)));
+    fields[IMAGE_SCKMOD] = 4;
+    assert_eq!(write_image(&fields), Err(Refusal::CodeNotAllowed));
+}
+
+fn startups() {
+    let mut startup = Startup::start(&[0, 0, 0, 0, 0, 0x18, 0, 0, 0, 0x34], &[0; 8]).unwrap();
+    assert_eq!(startup.step(Reading::default()), Ok(Report::Worked { step: 1, used: 0 }));
+    assert_eq!(startup.image(), [0x80, 0, 0, 0, 0, 0, 0, 0]);
+    let other = Reading { hserdy: true, pllrdy: true, usbhs_pllrdy: true, eth_pllrdy: true, sws: 3, sckmod: 2, ..Reading::default() };
+    assert_eq!(startup.step(other), Ok(Report::Waiting { step: 2, used: 1 }));
+    // HSION; HSERDY, PLLRDY, USBHS_PLLRDY, ETH_PLLRDY and SWS as they were read
+    assert_eq!(startup.image(), [0x80, 0xfc, 0, 0, 0, 0, 0, 0]);
+    let mut again = Startup::from_bytes(startup.bytes());
+    let ready = Reading { hsirdy: true, ..Reading::default() };
+    assert_eq!(again.step(ready), Ok(Report::Worked { step: 2, used: 2 }));
+    assert_eq!(FlashKey::at(1), Ok(FlashKey { register: KeyRegister::Keyr, key: 0xCDEF_89AB }));
+    assert_eq!(FlashKey::at(2), Ok(FlashKey { register: KeyRegister::ModeKeyr, key: 0x4567_0123 }));
+    assert_eq!(FlashKey::at(4), Err(Refusal::CodeNotAllowed));
+}
+
+fn families() {
+    let hse = Some(Hse { bypass: false, freq: 8_000_000 });
+    let hz = NonZeroU32::new(8_000_000);
+    let config = v1::Config { hse, sys: 2, pll_from_hse: true, pll: Some(v1::Pll { halved: true, mul: 7 }), apb1_pre: 4, ..v1::Config::default() };
+    let run = clocks(36_000_000, 36_000_000, 18_000_000, 36_000_000, 36_000_000, 36_000_000);
+    assert_eq!(v1::check(v1::Chip::V1, &config), Ok((run, None)));
+    let fields = v1::init_fields(v1::Chip::V1, &config, &[0, 0, 0, 0, 0, 0, 0, 1]).unwrap();
+    assert_eq!(fields, [2, 1, 1, 7, 0, 4, 0, 1]);
+    assert_eq!(v1::decode(v1::Chip::V1, &fields, hz), Ok(run));
+    let whole = v1::Config { pll: Some(v1::Pll { halved: false, mul: 15 }), ..config };
+    assert_eq!(v1::check(v1::Chip::L1, &whole).map(|x| x.0.sysclk), Ok(144_000_000));
+
+    let config = v30x::Config {
+        hse,
+        sys: 2,
+        pll_src: v30x::PllSource::Hse,
+        pll: Some(v30x::Pll { prediv: 1, mul: 0 }),
+        ahb_pre: 8,
+        apb2_pre: 4,
+        hspll_from_hse: true,
+        hspll: Some(1),
+        ..v30x::Config::default()
+    };
+    let run = clocks(72_000_000, 36_000_000, 36_000_000, 18_000_000, 36_000_000, 36_000_000);
+    assert_eq!(v30x::check(&config), Ok((run, None)));
+    let fields = v30x::init_fields(&config, &[0; V30X_FIELDS_SIZE]).unwrap();
+    assert_eq!(fields, [2, 1, 1, 0, 0, 8, 0, 4, 0]);
+    assert_eq!(v30x::decode(&fields, hz), Ok(run));
+    assert_eq!(v30x::check(&v30x::Config { pllx: true, ..config }), Err(Refusal::Pll2OrPll3));
+    let whole = v30x::Config { pll: Some(v30x::Pll { prediv: 0, mul: 0 }), ..config };
+    assert_eq!(v30x::check(&whole).map(|x| x.1), Ok(Some(6)));
+
+    let codes = h4::Prescale { hpre: 8, fpre: 2, ppre1: 4, ppre2: 5 };
+    let run = clocks(400_000_000, 50_000_000, 25_000_000, 12_500_000, 25_000_000, 12_500_000);
+    assert_eq!(h4::clocks_from_sysclk(400_000_000, codes), Ok((run, 200_000_000)));
+    assert_eq!(h4::ahb_from_sysclk(400_000_000, 12), Ok(6_250_000));
+    assert_eq!(h4::hclk_from_ahb(400_000_000, 7), Ok(100_000_000));
+    assert_eq!(h4::pclk_from_hclk(100_000_000, 6), Ok((12_500_000, 12_500_000)));
+    assert_eq!(h4::pll_mul_x2(4), Ok(17));
+}
+
+fn main() {
+    profiles();
+    images();
+    startups();
+    families();
+    println!("calls: every wrapper of the Rust crate is right");
+}
