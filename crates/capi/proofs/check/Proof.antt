@@ -29,7 +29,12 @@ refused-requires c κs = search needs
 
 returns : tie.Need-returns
 unfolding checkRead
-returns c = simp (told profileRead (c .before .before .before .before .before .before .before .read-profile .ensures) (c .before .before .before .before .before .config .given .1), told accepted (c .before .before .before .clocks .ensures) (c .before .enum-told .given .1), (c .refused .ensures), (c .before .enum-told .given .1))
+returns c =
+    let at-clocks = c .before .before .before in
+    let at-config = at-clocks .before .before in
+    let at-read-profile = at-config .before .before in
+    simp
+    (told profileRead (at-read-profile .read-profile .ensures) (at-config .config .given .1), told accepted (at-clocks .clocks .ensures) (c .before .enum-told .given .1), (c .refused .ensures), (c .before .enum-told .given .1))
 
 returns-2 : tie.Need-returns-2
 unfolding checkRead
@@ -37,7 +42,12 @@ returns-2 c = simp (told profileRead (c .before .before .before .read-profile .e
 
 returns-3 : tie.Need-returns-3
 unfolding checkRead
-returns-3 c = simp (told profileRead (c .before .before .before .before .before .before .before .read-profile .ensures) (c .before .before .before .before .before .config .given .1), told accepted (c .before .before .before .clocks .ensures) (c .before .checked .given .1))
+returns-3 c =
+    let at-clocks = c .before .before .before in
+    let at-config = at-clocks .before .before in
+    let at-read-profile = at-config .before .before in
+    simp
+    (told profileRead (at-read-profile .read-profile .ensures) (at-config .config .given .1), told accepted (at-clocks .clocks .ensures) (c .before .checked .given .1))
 
 pub check-spec : {M : Type 1} → statement M
 check-spec =

@@ -32,22 +32,37 @@ code-requires c κs = search needs
 
 slice-write-out : tie.Need-slice-write-out Inv-loop μ-loop
 unfolding Inv-loop
-slice-write-out c = lent-place _ _ _ _ _ _ (c .before .before .before .before .before .before .before .pre .0) (c .before .before .before .before .before .before .before .pre .1 .1) (c .before .before .before .loop .inv) (c .before .before .loop-test .taken)
+slice-write-out c =
+    let at-loop-test = c .before .before in
+    let at-loop = at-loop-test .before in
+    let at-pre = at-loop .before .before .before .before in
+    lent-place _ _ _ _ _ _ (at-pre .pre .0) (at-pre .pre .1 .1) (at-loop .loop .inv) (at-loop-test .loop-test .taken)
 
 add-at : tie.Need-add-at Inv-loop μ-loop
 unfolding Inv-loop
 add-at c = let t = (c .before .before .loop-test .taken) in let n = (c .before .before .before .loop .inv .near) in let w = width _ _ _ _ _ _ (c .before .before .before .before .before .before .before .pre .0) (c .before .before .before .before .before .before .before .pre .1 .1) (c .before .before .before .loop .inv) (c .before .before .loop-test .taken) in let m = (c .before .before .before .before .before .before .before .pre .1 .0) in record { fits = omega arith }
 
 add-i : tie.Need-add-i Inv-loop μ-loop
-add-i c = record { fits = lt-of-le-of-lt (add-one-le (c .before .before .loop-test .taken)) (c .before .before .before .before .before .before .before .good .0 .0) }
+add-i c =
+    let at-loop-test = c .before .before in
+    let at-good = at-loop-test .before .before .before .before .before in
+    record { fits = lt-of-le-of-lt (add-one-le (at-loop-test .loop-test .taken)) (at-good .good .0 .0) }
 
 loop-less : tie.Need-loop-less Inv-loop μ-loop
 unfolding μ-loop
-loop-less c = falls (length (c .before .before .before .before .before .before .before .args .ws .now)) (c .before .before .before .loop .i) (c .before .before .loop-test .taken)
+loop-less c =
+    let at-loop-test = c .before .before in
+    let at-loop = at-loop-test .before in
+    let at-args = at-loop .before .before .before .before in
+    falls (length (at-args .args .ws .now)) (at-loop .loop .i) (at-loop-test .loop-test .taken)
 
 loop-again : tie.Need-loop-again Inv-loop μ-loop
 unfolding Inv-loop
-loop-again c = next-cut _ _ _ _ _ _ (c .before .before .before .before .before .before .before .pre .0) (c .before .before .before .before .before .before .before .pre .1 .1) (c .before .before .before .loop .inv) (c .before .before .loop-test .taken) _ (c .code .ensures)
+loop-again c =
+    let at-loop-test = c .before .before in
+    let at-loop = at-loop-test .before in
+    let at-pre = at-loop .before .before .before .before in
+    next-cut _ _ _ _ _ _ (at-pre .pre .0) (at-pre .pre .1 .1) (at-loop .loop .inv) (at-loop-test .loop-test .taken) _ (c .code .ensures)
 
 same-length : tie.Need-same-length Inv-loop μ-loop
 unfolding Inv-loop

@@ -23,7 +23,10 @@ store-requires c κs = search needs
 
 returns-2 : tie.Need-returns-2
 unfolding profileFrom
-returns-2 c = refused _ _ _ _ (c .before .before .before .before .before .if1 .left) (misfit readProfile 30 10 _ _ _ _ _ (c .before .before .store .ensures) (not-true _ (c .if2 .taken)))
+returns-2 c =
+    let at-store = c .before .before in
+    let at-if1 = at-store .before .before .before in
+    refused _ _ _ _ (at-if1 .if1 .left) (misfit readProfile 30 10 _ _ _ _ _ (at-store .store .ensures) (not-true _ (c .if2 .taken)))
 
 slice-aggregate-read-profile : tie.Need-slice-aggregate-read-profile
 slice-aggregate-read-profile c = search needs
@@ -45,14 +48,28 @@ give-bytes-requires c κs = search needs
 
 returns-3 : tie.Need-returns-3
 unfolding profileFrom
-returns-3 c = refused _ _ _ _ (c .before .before .before .before .before .before .before .before .before .if1 .left) (unread readProfile 30 10 _ _ _ _ _ (c .before .before .before .before .before .before .store .ensures) refl refl (not-false _ (c .before .before .before .before .if2 .left)) _ (told profileRead (c .before .before .read-profile .ensures) (c .enum-told .given .1)))
+returns-3 c =
+    let at-read-profile = c .before .before in
+    let at-if2 = at-read-profile .before .before in
+    let at-store = at-if2 .before .before in
+    let at-if1 = at-store .before .before .before in
+    refused _ _ _ _ (at-if1 .if1 .left)
+    (unread readProfile 30 10 _ _ _ _ _ (at-store .store .ensures) refl refl (not-false _ (at-if2 .if2 .left)) _ (told profileRead (at-read-profile .read-profile .ensures) (c .enum-told .given .1)))
 
 same-length : tie.Need-same-length
 same-length c = search needs
 
 returns-4 : tie.Need-returns-4
 unfolding profileFrom
-returns-4 c = passed-on _ _ _ _ _ _ (size readProfile 30 10 _ _ _ _ _ (c .before .before .before .before .before .before .before .before .before .before .before .store .ensures) refl refl (not-false _ (c .before .before .before .before .before .before .before .before .before .if2 .left))) (reads readProfile 30 10 _ _ _ _ _ (c .before .before .before .before .before .before .before .before .before .before .before .store .ensures) refl refl (not-false _ (c .before .before .before .before .before .before .before .before .before .if2 .left)) _ (told profileRead (c .before .before .before .before .before .before .before .read-profile .ensures) (c .before .before .before .before .before .enum-told2 .given .1))) (c .before .before .give-bytes .ensures)
+returns-4 c =
+    let at-give-bytes = c .before .before in
+    let at-enum-told2 = at-give-bytes .before .before .before in
+    let at-read-profile = at-enum-told2 .before .before in
+    let at-if2 = at-read-profile .before .before in
+    let at-store = at-if2 .before .before in
+    passed-on _ _ _ _ _ _ (size readProfile 30 10 _ _ _ _ _ (at-store .store .ensures) refl refl (not-false _ (at-if2 .if2 .left)))
+    (reads readProfile 30 10 _ _ _ _ _ (at-store .store .ensures) refl refl (not-false _ (at-if2 .if2 .left)) _ (told profileRead (at-read-profile .read-profile .ensures) (at-enum-told2 .enum-told2 .given .1)))
+    (at-give-bytes .give-bytes .ensures)
 
 pub wontabeli-write-profile-spec : {M : Type 1} → statement M
 wontabeli-write-profile-spec =

@@ -23,7 +23,10 @@ returns c = simp (told profileRead (c .before .before .before .read-profile .ens
 
 returns-2 : tie.Need-returns-2
 unfolding callsRead
-returns-2 c = simp (told profileRead (c .before .before .before .before .read-profile .ensures) (c .before .before .config .given .1), (c .call-bound .ensures))
+returns-2 c =
+    let at-config = c .before .before in
+    let at-read-profile = at-config .before .before in
+    simp (told profileRead (at-read-profile .read-profile .ensures) (at-config .config .given .1), (c .call-bound .ensures))
 
 pub calls-spec : {M : Type 1} → statement M
 calls-spec =

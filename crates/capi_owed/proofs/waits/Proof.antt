@@ -23,7 +23,10 @@ returns c = simp (told profileRead (c .before .before .before .read-profile .ens
 
 returns-2 : tie.Need-returns-2
 unfolding waitsRead
-returns-2 c = simp (told profileRead (c .before .before .before .before .read-profile .ensures) (c .before .before .config .given .1), (c .waits-owed .ensures))
+returns-2 c =
+    let at-config = c .before .before in
+    let at-read-profile = at-config .before .before in
+    simp (told profileRead (at-read-profile .read-profile .ensures) (at-config .config .given .1), (c .waits-owed .ensures))
 
 pub waits-spec : {M : Type 1} → statement M
 waits-spec =

@@ -25,14 +25,28 @@ number-requires : tie.Need-number-requires
 number-requires c κs = search needs
 
 returns : tie.Need-returns
-returns c = refused-28 (c .before .before .before .before .before .before .before .before .before .args .place .now) (c .before .before .before .before .before .before .before .before .before .args .w) _ (told begun (c .before .before .before .before .before .before .before .kept .ensures) (c .before .before .before .before .before .startup .given .1)) _ (c .before .before .before .reading .ensures) _ (c .before .before .step .ensures) _ (c .before .number .ensures) (c .if1 .taken)
+returns c =
+    let at-step = c .before .before in
+    let at-reading = at-step .before in
+    let at-startup = at-reading .before .before in
+    let at-kept = at-startup .before .before in
+    let at-args = at-kept .before .before in
+    refused-28 (at-args .args .place .now) (at-args .args .w) _ (told begun (at-kept .kept .ensures) (at-startup .startup .given .1)) _
+    (at-reading .reading .ensures) _ (at-step .step .ensures) _ (c .before .number .ensures) (c .if1 .taken)
 
 returns-2 : tie.Need-returns-2
 unfolding callOf
 returns-2 c = simp (told begun (c .before .before .before .kept .ensures) (c .before .n .given .1))
 
 returns-3 : tie.Need-returns-3
-returns-3 c = called-on (c .before .before .before .before .before .before .before .before .before .args .place .now) (c .before .before .before .before .before .before .before .before .before .args .w) _ (told begun (c .before .before .before .before .before .before .before .kept .ensures) (c .before .before .before .before .before .startup .given .1)) _ (c .before .before .before .reading .ensures) _ (c .before .before .step .ensures) _ (c .before .number .ensures) (c .if1 .left)
+returns-3 c =
+    let at-step = c .before .before in
+    let at-reading = at-step .before in
+    let at-startup = at-reading .before .before in
+    let at-kept = at-startup .before .before in
+    let at-args = at-kept .before .before in
+    called-on (at-args .args .place .now) (at-args .args .w) _ (told begun (at-kept .kept .ensures) (at-startup .startup .given .1)) _
+    (at-reading .reading .ensures) _ (at-step .step .ensures) _ (c .before .number .ensures) (c .if1 .left)
 
 pub call-spec : {M : Type 1} → statement M
 call-spec =

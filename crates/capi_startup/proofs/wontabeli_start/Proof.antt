@@ -7,7 +7,9 @@ use Rattle.capi_startup.proofs.wontabeli_start.Statement.{statement}
 use Rattle.capi_startup.proofs.wontabeli_start.Tie as tie
 
 returns : tie.Need-returns
-returns c = short 32 (startBytes (c .before .before .before .before .args .p .now) (c .before .before .before .before .args .i .now)) (c .before .before .before .before .args .place .now) (c .if1 .taken)
+returns c =
+    let at-args = c .before .before .before .before in
+    short 32 (startBytes (at-args .args .p .now) (at-args .args .i .now)) (at-args .args .place .now) (c .if1 .taken)
 
 begin-requires : tie.Need-begin-requires
 begin-requires c κs = search needs
@@ -23,14 +25,25 @@ store-requires c κs = search needs
 
 returns-2 : tie.Need-returns-2
 unfolding startBytes
-returns-2 c = refused 32 (startBytes (c .before .before .before .before .before .before .before .before .args .p .now) (c .before .before .before .before .before .before .before .before .args .i .now)) (c .before .before .before .before .before .before .before .before .args .place .now) _ (c .before .before .before .before .if1 .left) (rw (told begun (c .before .before .before .begin .ensures) (c .before .n .given .1)))
+returns-2 c =
+    let at-begin = c .before .before .before in
+    let at-if1 = at-begin .before in
+    let at-args = at-if1 .before .before .before .before in
+    refused 32 (startBytes (at-args .args .p .now) (at-args .args .i .now)) (at-args .args .place .now) _ (at-if1 .if1 .left)
+    (rw (told begun (at-begin .begin .ensures) (c .before .n .given .1)))
 
 same-length : tie.Need-same-length
 same-length c = search needs
 
 returns-3 : tie.Need-returns-3
 unfolding startBytes
-returns-3 c = carried 32 (startBytes (c .before .before .before .before .before .before .before .before .before .before .before .before .args .p .now) (c .before .before .before .before .before .before .before .before .before .before .before .before .args .i .now)) (c .before .before .before .before .before .before .before .before .before .before .before .before .args .place .now) _ _ _ (c .before .before .store .ensures) (rw (told begun (c .before .before .before .before .before .before .before .begin .ensures) (c .before .before .before .before .before .startup .given .1)))
+returns-3 c =
+    let at-store = c .before .before in
+    let at-startup = at-store .before .before .before in
+    let at-begin = at-startup .before .before in
+    let at-args = at-begin .before .before .before .before .before in
+    carried 32 (startBytes (at-args .args .p .now) (at-args .args .i .now)) (at-args .args .place .now) _ _ _ (at-store .store .ensures)
+    (rw (told begun (at-begin .begin .ensures) (at-startup .startup .given .1)))
 
 pub wontabeli-start-spec : {M : Type 1} → statement M
 wontabeli-start-spec =

@@ -6,7 +6,9 @@ use Rattle.capi_startup.proofs.wontabeli_step.Statement.{statement}
 use Rattle.capi_startup.proofs.wontabeli_step.Tie as tie
 
 returns : tie.Need-returns
-returns c = short 32 (stepBytes (c .before .before .args .place .now) (c .before .before .args .w)) (c .before .before .args .place .now) (c .if1 .taken)
+returns c =
+    let at-args = c .before .before in
+    short 32 (stepBytes (at-args .args .place .now) (at-args .args .w)) (at-args .args .place .now) (c .if1 .taken)
 
 call-requires : tie.Need-call-requires
 call-requires c κs = search needs
@@ -25,14 +27,25 @@ same-length c = search needs
 
 returns-2 : tie.Need-returns-2
 unfolding stepBytes
-returns-2 c = refused 32 (stepBytes (c .before .before .before .before .before .before .before .args .place .now) (c .before .before .before .before .before .before .before .args .w)) (c .before .before .before .before .before .before .before .args .place .now) _ (c .before .before .before .before .before .if1 .left) (rw (told calledOf (c .before .before .before .call .ensures) (c .before .n .given .1)))
+returns-2 c =
+    let at-call = c .before .before .before in
+    let at-if1 = at-call .before .before in
+    let at-args = at-if1 .before .before in
+    refused 32 (stepBytes (at-args .args .place .now) (at-args .args .w)) (at-args .args .place .now) _ (at-if1 .if1 .left)
+    (rw (told calledOf (at-call .call .ensures) (c .before .n .given .1)))
 
 same-length-2 : tie.Need-same-length-2
 same-length-2 c = search needs
 
 returns-3 : tie.Need-returns-3
 unfolding stepBytes
-returns-3 c = carried 32 (stepBytes (c .before .before .before .before .before .before .before .before .before .before .before .args .place .now) (c .before .before .before .before .before .before .before .before .before .before .before .args .w)) (c .before .before .before .before .before .before .before .before .before .before .before .args .place .now) _ _ _ (c .before .before .store .ensures) (rw (told calledOf (c .before .before .before .before .before .before .before .call .ensures) (c .before .before .before .before .before .x .given .1)))
+returns-3 c =
+    let at-store = c .before .before in
+    let at-x = at-store .before .before .before in
+    let at-call = at-x .before .before in
+    let at-args = at-call .before .before .before .before in
+    carried 32 (stepBytes (at-args .args .place .now) (at-args .args .w)) (at-args .args .place .now) _ _ _ (at-store .store .ensures)
+    (rw (told calledOf (at-call .call .ensures) (at-x .x .given .1)))
 
 pub wontabeli-step-spec : {M : Type 1} → statement M
 wontabeli-step-spec =

@@ -51,7 +51,10 @@ slice-relend-prefix-store : tie.Need-slice-relend-prefix-store
 slice-relend-prefix-store c = search needs
 
 slice-aggregate-store-3 : tie.Need-slice-aggregate-store-3
-slice-aggregate-store-3 c = sym (length-take-le 8 (c .before .before .before .before .before .before .args .out .now) (c .before .before .before .before .if1 .left))
+slice-aggregate-store-3 c =
+    let at-if1 = c .before .before .before .before in
+    let at-args = at-if1 .before .before in
+    sym (length-take-le 8 (at-args .args .out .now) (at-if1 .if1 .left))
 
 store-requires : tie.Need-store-requires
 store-requires c κs = search needs

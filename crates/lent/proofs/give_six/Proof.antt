@@ -26,7 +26,10 @@ same-length : tie.Need-same-length
 same-length c = search needs
 
 returns-3 : tie.Need-returns-3
-returns-3 c = passed-on _ _ _ _ _ _ refl (rw (c .before .before .before .before .before .before .buses2 .given .1) refl) (c .before .before .give .ensures)
+returns-3 c =
+    let at-give = c .before .before in
+    let at-buses2 = at-give .before .before .before .before in
+    passed-on _ _ _ _ _ _ refl (rw (at-buses2 .buses2 .given .1) refl) (at-give .give .ensures)
 
 pub give-six-spec : {M : Type 1} → statement M
 give-six-spec =

@@ -18,7 +18,10 @@ adc-from-requires c κs = search needs
 
 returns : tie.Need-returns
 unfolding rawFrom
-returns c = (rw (c .before .before .before .hse-from .ensures .0, c .before .before .pll-from .ensures, c .before .hspll-from .ensures, c .adc-from .ensures), (c .before .before .before .hse-from .ensures .1))
+returns c =
+    let at-pll-from = c .before .before in
+    let at-hse-from = at-pll-from .before in
+    (rw (at-hse-from .hse-from .ensures .0, at-pll-from .pll-from .ensures, c .before .hspll-from .ensures, c .adc-from .ensures), (at-hse-from .hse-from .ensures .1))
 
 pub raw-from-spec : {M : Type 1} → statement M
 raw-from-spec =

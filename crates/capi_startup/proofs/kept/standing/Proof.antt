@@ -40,7 +40,11 @@ phase-requires c κs = search needs
 
 returns : tie.Need-returns
 unfolding standingOf
-returns c = rw ((c .phase .ensures), (c .before .code2 .ensures), (c .before .before .bits2 .ensures), (c .before .before .before .bits .ensures), (c .before .before .before .before .code .ensures))
+returns c =
+    let at-bits2 = c .before .before in
+    let at-bits = at-bits2 .before in
+    let at-code = at-bits .before in
+    rw ((c .phase .ensures), (c .before .code2 .ensures), (at-bits2 .bits2 .ensures), (at-bits .bits .ensures), (at-code .code .ensures))
 
 pub standing-spec : {M : Type 1} → statement M
 standing-spec =

@@ -18,7 +18,12 @@ enum-known-n : tie.Need-enum-known-n
 enum-known-n c = search needs
 
 returns-2 : tie.Need-returns-2
-returns-2 c = no-profile (c .before .before .before .before .before .before .before .before .before .before .before .args .x) (c .before .before .before .before .before .before .before .before .before .before .before .args .place .now) _ _ (c .before .before .before .before .before .before .before .before .before .if1 .left) (c .before .before .before .before .write-profile .ensures) _ (c .before .n .given .1)
+returns-2 c =
+    let at-write-profile = c .before .before .before .before in
+    let at-if1 = at-write-profile .before .before .before .before .before in
+    let at-args = at-if1 .before .before in
+    no-profile (at-args .args .x) (at-args .args .place .now) _ _ (at-if1 .if1 .left) (at-write-profile .write-profile .ensures) _
+    (c .before .n .given .1)
 
 enum-told : tie.Need-enum-told
 enum-told c = search needs
@@ -33,7 +38,14 @@ enum-known-n-2 : tie.Need-enum-known-n-2
 enum-known-n-2 c = search needs
 
 returns-3 : tie.Need-returns-3
-returns-3 c = no-image (c .before .before .before .before .before .before .before .before .before .before .before .before .before .before .before .before .args .x) (c .before .before .before .before .before .before .before .before .before .before .before .before .before .before .before .before .args .place .now) _ _ (c .before .before .before .before .before .before .before .before .before .before .before .before .before .before .if1 .left) (c .before .before .before .before .before .before .before .before .before .write-profile .ensures) (c .before .before .before .before .before .before .enum-told .given .1) _ _ (c .before .before .before .before .write-image .ensures) _ (c .before .n2 .given .1)
+returns-3 c =
+    let at-write-image = c .before .before .before .before in
+    let at-enum-told = at-write-image .before .before in
+    let at-write-profile = at-enum-told .before .before .before in
+    let at-if1 = at-write-profile .before .before .before .before .before in
+    let at-args = at-if1 .before .before in
+    no-image (at-args .args .x) (at-args .args .place .now) _ _ (at-if1 .if1 .left) (at-write-profile .write-profile .ensures)
+    (at-enum-told .enum-told .given .1) _ _ (at-write-image .write-image .ensures) _ (c .before .n2 .given .1)
 
 enum-told-2 : tie.Need-enum-told-2
 enum-told-2 c = search needs
@@ -54,7 +66,19 @@ same-length : tie.Need-same-length
 same-length c = search needs
 
 returns-4 : tie.Need-returns-4
-returns-4 c = stored (c .before .before .before .before .before .before .before .before .before .before .before .before .before .before .before .before .before .before .before .before .before .before .args .x) (c .before .before .before .before .before .before .before .before .before .before .before .before .before .before .before .before .before .before .before .before .before .before .args .place .now) _ _ (c .before .before .before .before .before .before .before .before .before .before .before .before .before .before .before .before .before .before .before .before .if1 .left) (c .before .before .before .before .before .before .before .before .before .before .before .before .before .before .before .write-profile .ensures) (c .before .before .before .before .before .before .before .before .before .before .before .before .enum-told .given .1) _ _ (c .before .before .before .before .before .before .before .before .before .before .write-image .ensures) (c .before .before .before .before .before .before .before .enum-told2 .given .1) _ _ _ _ (c .before .before .before .before .before .before .tail .ensures) (c .before .before .before .before .before .join .ensures) (c .before .before .give-bytes .ensures)
+returns-4 c =
+    let at-give-bytes = c .before .before in
+    let at-join = at-give-bytes .before .before .before in
+    let at-tail = at-join .before in
+    let at-enum-told2 = at-tail .before in
+    let at-write-image = at-enum-told2 .before .before .before in
+    let at-enum-told = at-write-image .before .before in
+    let at-write-profile = at-enum-told .before .before .before in
+    let at-if1 = at-write-profile .before .before .before .before .before in
+    let at-args = at-if1 .before .before in
+    stored (at-args .args .x) (at-args .args .place .now) _ _ (at-if1 .if1 .left) (at-write-profile .write-profile .ensures)
+    (at-enum-told .enum-told .given .1) _ _ (at-write-image .write-image .ensures) (at-enum-told2 .enum-told2 .given .1) _ _ _ _
+    (at-tail .tail .ensures) (at-join .join .ensures) (at-give-bytes .give-bytes .ensures)
 
 pub store-spec : {M : Type 1} → statement M
 store-spec =
