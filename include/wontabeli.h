@@ -25,7 +25,7 @@ extern "C" {
 /* ---- CH32V4x7: the check, the decoder, the queries ---- */
 
 /* Checks a profile of ten bytes. Gives CHECK_WORDS words: SYSCLK, HCLK, PCLK1, PCLK2, the timers' clocks of PCLK1 and PCLK2, the ADC's frequency.
- * Refused by 32, 29 (profile_len not 10), 30, then by the check's 1 to 15. */
+ * Refused by 32, 29 (profile_len not 10), 30, then by the check's 1 to 16. */
 uint8_t wontabeli_check(const uint8_t *profile, size_t profile_len, uint32_t *out, size_t out_len);
 
 /* Decodes an image of eight bytes, with HSE's frequency in Hz, or 0 where there is no HSE. Gives CLOCKS_WORDS words, the clocks in the same order.
@@ -69,7 +69,7 @@ uint8_t wontabeli_write_image(const uint8_t *fields, size_t fields_len, uint8_t 
  * A call doesn't look at the last four. */
 
 /* Starts a startup with a profile and the image of the registers as they are. It works no step.
- * Refused by 32, 29, 30, 31, then by the check's 1 to 15. */
+ * Refused by 32, 29, 30, 31, then by the check's 1 to 16. */
 uint8_t wontabeli_start(const uint8_t *profile, size_t profile_len, const uint8_t *image, size_t image_len, uint8_t *place, size_t place_len);
 
 /* One call: one step's work done or one reading used; the place says how it went. After the end it repeats its last answer. The reading is the sum

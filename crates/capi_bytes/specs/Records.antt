@@ -1,4 +1,4 @@
--- A configuration's bytes are given back by what is read of them: it has one record. Assumes nothing.
+-- A configuration's bytes are given back by what is read of them: no configuration has two records. Assumes nothing.
 use Prim.Native.Nat.{ℕ, zero, suc, _+_, _*_, _/_, _%_, _^_, _<_}
 use mathlib.Core.Path.{_≡_, refl, sym, ap, _∙_}
 use mathlib.Core.Bool.{Bool, true, false, _&&_, _||_}

@@ -52,7 +52,7 @@ configOf l = record {
   «apb2_pre» = at l 13;
 }
 
--- Yes or no where that is asked, and an absent part's bytes zero: so a configuration has one record
+-- Yes or no where that is asked, and an absent part's bytes zero: so no configuration has two records
 unfoldable pub configAllowed : List ℕ → Bool
 configAllowed l =
     hseAllowed (at l 0) (at l 1) (frequencyOf l) && yesOrNo (at l 7)

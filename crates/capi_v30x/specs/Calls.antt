@@ -66,7 +66,7 @@ pllAllowed l = leb (at l 7) 2 && yesOrNo (at l 8) && (yes (at l 8) || eqb (at l 
 abbrev pub usbhsAllowed : List ℕ → Bool
 usbhsAllowed l = yesOrNo (at l 15) && yesOrNo (at l 16) && (yes (at l 16) || eqb (at l 17) 0)
 
--- so a configuration has one record
+-- so no configuration has two records
 unfoldable pub configAllowed : List ℕ → Bool
 configAllowed l = hseAllowed (at l 0) (at l 1) (frequencyOf l) && pllAllowed l && usbhsAllowed l
 
