@@ -43,7 +43,7 @@ rngRead i sys = do
   rngQueryOf f sys
 
 -- what a query gives, two words: 1 and the frequency; or zeros, "not ready"
-abbrev pub wordsOf : Ready → ℕ × ℕ
+abbrev wordsOf : Ready → ℕ × ℕ
 wordsOf (hertz hz) = (1, hz)
 wordsOf notReady = (0, 0)
 

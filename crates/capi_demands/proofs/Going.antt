@@ -21,7 +21,7 @@ use Rattle.demands.specs.Runs.{mostReadings}
 use Rattle.demands.proofs.Machine.{machine, inPhase, skipOff, next-from}
 
 -- The list ends with a comparison, which is present.
-abbrev pub Closed : List Entry → Type 0
+abbrev Closed : List Entry → Type 0
 Closed [] = ⊥
 Closed (entry b (write w) ∷ l) = Closed l
 Closed (entry b (wait p) ∷ l) = Closed l

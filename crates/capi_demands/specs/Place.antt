@@ -19,7 +19,7 @@ use Rattle.capi_startup.specs.Kept.{keptOf, placeOf}
 use Rattle.capi_startup.specs.Calls.{readingOf, stepBytes}
 
 -- A last report that a place can hold: over by running, 21, 22 or 23. It repeats the startup's own step and readings.
-abbrev pub Repeats : Report → ℕ → ℕ → Type 0
+abbrev Repeats : Report → ℕ → ℕ → Type 0
 Repeats (Worked s u) step used = ⊥
 Repeats (Waiting s u) step used = ⊥
 Repeats (Running s u) step used = (s ≡ step) × (u ≡ used)

@@ -24,7 +24,7 @@ use Rattle.capi_bytes.specs.Bytes.{at, yes, yesOrNo, frequencyOf, hseAllowed}
 use Rattle.capi_bytes.specs.Records.{listed, entries, same, said, said-as, bit-says, or-else, sourceByte, source-back, hseBytes, hse-back}
 use Rattle.capi_v30x.specs.Calls.{pllOf, hsPllOf, configOf, pllAllowed, usbhsAllowed, configAllowed, readConfig, readFields, bytesOf}
 
-abbrev pub pllSourceByte : PllSource → ℕ
+abbrev pllSourceByte : PllSource → ℕ
 pllSourceByte source.Hsi = 0
 pllSourceByte source.Hse = 1
 pllSourceByte source.Pll2 = 2
@@ -33,7 +33,7 @@ abbrev pub pllBytes : Pll → List ℕ
 pllBytes pll.Absent = 0 ∷ 0 ∷ 0 ∷ []
 pllBytes (pll.Present prediv mul) = 1 ∷ prediv ∷ mul ∷ []
 
-abbrev pub hsPllBytes : HsPll → List ℕ
+abbrev hsPllBytes : HsPll → List ℕ
 hsPllBytes hspll.Absent = 0 ∷ 0 ∷ []
 hsPllBytes (hspll.Present pre) = 1 ∷ pre ∷ []
 

@@ -30,13 +30,13 @@ unfolding decodeOf inUseOf inWidths
 bits-unseen f enables hsi hse pll usbhs eth h = refl
 
 -- whether SYSPLL's input comes from HSE, at whatever length
-abbrev pub fromHse : Cfgr2 → Bool → Bool
+abbrev fromHse : Cfgr2 → Bool → Bool
 fromHse r pllsrc =
     cond (eqb (r .syspllsrc) 0 || eqb (r .syspllsrc) 2) (eqb (r .usbhspllsrc) 0 || eqb (r .usbhspllsrc) 2)
     (cond (eqb (r .syspllsrc) 1 || eqb (r .syspllsrc) 3) true (cond (eqb (r .syspllsrc) 6) pllsrc false))
 
 -- whether the clock in use comes from HSE
-abbrev pub usesHse : Fields → Bool
+abbrev usesHse : Fields → Bool
 usesHse f = cond (eqb (f .seen .sws) 1) true (cond (eqb (f .seen .sws) 2) (fromHse (f .cfgr2) (f .cfgr0 .pllsrc)) false)
 
 usbhs : (s code : ℕ) (h k : HseFrequency) → (eqb s 0 || eqb s 2) ≡ false → usbHsPllOf s code h ≡ usbHsPllOf s code k

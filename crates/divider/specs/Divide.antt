@@ -9,11 +9,11 @@ use Rattle.divider.specs.declared.Family.{Family}
 use Rattle.divider.specs.declared.Family.the-variants.{V4x7, V1, V30x, H4}
 
 -- AHB divisors: codes 0 to 7 give 1; 8 to 15 give 2, 4, 8, 16, 64, 128, 256, 512
-abbrev pub without32 : List ℕ
+abbrev without32 : List ℕ
 without32 = 1 ∷ 1 ∷ 1 ∷ 1 ∷ 1 ∷ 1 ∷ 1 ∷ 1 ∷ 2 ∷ 4 ∷ 8 ∷ 16 ∷ 64 ∷ 128 ∷ 256 ∷ 512 ∷ []
 
 -- or 2, 4, 8, 16, 32, 64, 128, 256
-abbrev pub with32 : List ℕ
+abbrev with32 : List ℕ
 with32 = 1 ∷ 1 ∷ 1 ∷ 1 ∷ 1 ∷ 1 ∷ 1 ∷ 1 ∷ 2 ∷ 4 ∷ 8 ∷ 16 ∷ 32 ∷ 64 ∷ 128 ∷ 256 ∷ []
 
 unfoldable pub ahbDivisors : Family → List ℕ

@@ -65,7 +65,7 @@ unfolding apbOf
 apb-given c q = given (leb 8 c) (λ e. apb-between c (leb-false 8 c e)) q
 
 -- a frequency divided is its quotient by the code's divisor
-pub by-apb-given : (hz c : ℕ) {d q : ℕ} → apbOf c ≡ gives d → byApbOf hz c ≡ gives q → hz / d ≡ q
+by-apb-given : (hz c : ℕ) {d q : ℕ} → apbOf c ≡ gives d → byApbOf hz c ≡ gives q → hz / d ≡ q
 unfolding byApbOf
 by-apb-given hz c {d} {q} given quotient =
     let b = bound (apbOf c) (λ d. gives (hz / d)) quotient in

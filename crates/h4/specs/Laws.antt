@@ -14,7 +14,7 @@ use Rattle.tree.specs.Tree.{busOf, timerClock, belowOf}
 use Rattle.h4.specs.H4.{doubles, pclkOf, prescaledOf}
 
 -- the multipliers that 003's list names, in tenths: MUL4, MUL6, MUL7, MUL8, MUL8_5, ..
-abbrev pub tenths : List ℕ
+abbrev tenths : List ℕ
 tenths =
     40 ∷ 60 ∷ 70 ∷ 80 ∷ 85 ∷ 90 ∷ 95 ∷ 100 ∷ 105 ∷ 110 ∷ 115 ∷ 120 ∷ 125 ∷ 130 ∷ 140 ∷ 150
     ∷ 160 ∷ 170 ∷ 180 ∷ 190 ∷ 200 ∷ 220 ∷ 240 ∷ 260 ∷ 280 ∷ 300 ∷ 320 ∷ 340 ∷ 360 ∷ 380 ∷ 400 ∷ 590 ∷ []

@@ -80,7 +80,7 @@ fitting-length (w ∷ ws) [] h = let z : false ≡ true = h in cc
 fitting-length (w ∷ ws) (x ∷ xs) h = ap suc (fitting-length ws xs (and-right (ltb x (2 ^ w)) (fitting ws xs) h))
 
 -- A field may be cut into a layout of its own.
-pub total-append : (us ws : List ℕ) → total (us ++ ws) ≡ total us + total ws
+total-append : (us ws : List ℕ) → total (us ++ ws) ≡ total us + total ws
 total-append [] ws = omega arith
 total-append (u ∷ us) ws = rw (total-append us ws) (omega arith)
 

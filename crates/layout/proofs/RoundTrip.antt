@@ -21,14 +21,14 @@ use Rattle.layout.proofs.Reading.{cut-unpack, cut-packed, packed-unpack
 use Rattle.layout.proofs.Writing.{written-to}
 
 -- the reader of a record of n bytes, laid out as ws
-abbrev pub readBy : {A : Type 0} (n : ℕ) (ws : List ℕ) (readable : List ℕ → Bool) (of : List ℕ → A) (wrongLength wrongFields : ℕ) → List ℕ → Answer A
+abbrev readBy : {A : Type 0} (n : ℕ) (ws : List ℕ) (readable : List ℕ → Bool) (of : List ℕ → A) (wrongLength wrongFields : ℕ) → List ℕ → Answer A
 readBy n ws readable of wrongLength wrongFields s = do
   refuse wrongLength (not (eqb (length s) n))
   refuse wrongFields (not (readable (cut ws s 0)))
   gives (of (cut ws s 0))
 
 -- its writer
-abbrev pub writeBy : {A : Type 0} (n : ℕ) (ws : List ℕ) (writable : A → Bool) (fields : A → List ℕ) (wrong : ℕ) → A → Answer (List ℕ)
+abbrev writeBy : {A : Type 0} (n : ℕ) (ws : List ℕ) (writable : A → Bool) (fields : A → List ℕ) (wrong : ℕ) → A → Answer (List ℕ)
 writeBy n ws writable fields wrong a = do
   refuse wrong (not (writable a))
   gives (packed n ws (fields a))

@@ -27,7 +27,7 @@ pub given-settled : {n : ℕ} {m : Answer (List ℕ)} {l a b : List ℕ} {r s : 
 given-settled w v = (w .number ∙ sym (v .number), w .lent ∙ sym (v .lent))
 
 -- one lent word after a number is given through it: a refusal leaves it
-abbrev pub oneAfter : ℕ → Answer ℕ → ℕ
+abbrev oneAfter : ℕ → Answer ℕ → ℕ
 oneAfter x (gives a) = a
 oneAfter x (refuses n) = x
 
@@ -50,7 +50,7 @@ twofold (two.Are first second) = gives (first, second)
 twofold (two.Refused n) = refuses n
 
 -- the six clocks, in the program's order
-abbrev pub sixOf : Clocks → List ℕ
+abbrev sixOf : Clocks → List ℕ
 sixOf k = k .sysclk ∷ k .hclk ∷ k .pclk1 ∷ k .pclk2 ∷ k .«pclk1_tim» ∷ k .«pclk2_tim» ∷ []
 
 abbrev pub sixWords : Answer Clocks → Answer (List ℕ)
@@ -59,7 +59,7 @@ sixWords m = do
   gives (sixOf k)
 
 -- and one more number behind them
-abbrev pub sevenOf : Clocks × ℕ → List ℕ
+abbrev sevenOf : Clocks × ℕ → List ℕ
 sevenOf a = a .0 .sysclk ∷ a .0 .hclk ∷ a .0 .pclk1 ∷ a .0 .pclk2 ∷ a .0 .«pclk1_tim» ∷ a .0 .«pclk2_tim» ∷ a .1 ∷ []
 
 abbrev pub sevenWords : Answer (Clocks × ℕ) → Answer (List ℕ)

@@ -18,12 +18,10 @@ use Rattle.pll32.specs.declared.Hse.{Hse}
 use Rattle.pll32.specs.declared.Setting.{Setting}
 use Rattle.pll32.specs.declared.Output.{Output}
 use Rattle.pll32.specs.declared.Output.the-variants as pll
-use Rattle.pll32.specs.declared.Made.{Made}
-use Rattle.pll32.specs.declared.Made.the-variants as made
 use Rattle.pll32.specs.declared.Checked.{Checked}
 use Rattle.pll32.specs.declared.Checked.the-variants as checked
 use Rattle.pll32.specs.Answers.{Given, same-first}
-use Rattle.pll32.specs.Pll.{outputs, accepted, factor, tooWide, familyOf, neededOf, outputOf, configuredOf, sysclkOf, usbDivisor, finishedOf, readSysclkOf, decodedOf}
+use Rattle.pll32.specs.Pll.{accepted, factor, tooWide, familyOf, neededOf, outputOf, configuredOf, sysclkOf, usbDivisor, finishedOf, readSysclkOf, decodedOf}
 
 -- Nothing is left open: two results that a promise allows are equal.
 
@@ -38,18 +36,6 @@ checked-again (checked.Refused n) = refl
 
 pub checked-settled : (r s : Checked) → accepted r ≡ accepted s → r ≡ s
 checked-settled = settled-by accepted checkedOf checked-again
-
-backOf : Answer Output → Made
-backOf (gives out) = made.Is out
-backOf (refuses n) = made.Refused n
-
-made-again : (r : Made) → backOf (outputs r) ≡ r
-unfolding backOf
-made-again (made.Is out) = refl
-made-again (made.Refused n) = refl
-
-pub made-settled : (r s : Made) → outputs r ≡ outputs s → r ≡ s
-made-settled = settled-by outputs backOf made-again
 
 -- The USB clock: where there is a divisor, it makes 48 MHz of the PLL's output.
 

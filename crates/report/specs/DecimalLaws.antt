@@ -79,7 +79,7 @@ ten-digits n h = at-most 9 n (omega arith)
 -- ---- what the text spells
 
 -- the number that digits spell after v
-abbrev pub spelt : ℕ → List ℕ → ℕ
+abbrev spelt : ℕ → List ℕ → ℕ
 spelt v [] = v
 spelt v (x ∷ xs) = spelt (v * 10 + (x - 48)) xs
 

@@ -184,7 +184,7 @@ callBound c = 1000000 * waitsOwed c + 20
 abbrev pub keys : List FlashKey
 keys = Keyr 0x45670123 ∷ Keyr 0xCDEF89AB ∷ ModeKeyr 0x45670123 ∷ ModeKeyr 0xCDEF89AB ∷ []
 
-abbrev pub keyAt : List FlashKey → ℕ → FlashKey
+abbrev keyAt : List FlashKey → ℕ → FlashKey
 keyAt [] place = NoKey
 keyAt (key ∷ l) zero = key
 keyAt (key ∷ l) (suc place) = keyAt l place

@@ -39,7 +39,7 @@ four-ones true true true true = refl
 pub ones-turned-on : (c : Config) → ones (maskOf c) ≡ turnedOn c
 ones-turned-on c = four-ones (hasHse (c .hse)) (c .ethpll) (hasUsbHs (c .hspll)) (hasMain (c .pll))
 
-pub bit-le : (b : Bool) → bitOf b ≤ 1
+bit-le : (b : Bool) → bitOf b ≤ 1
 bit-le true = omega arith
 bit-le false = omega arith
 

@@ -69,7 +69,7 @@ always c x k (inr h) n m =
     (λ g. always-past c x k g) (le-or-lt k 28)
 
 -- A number that is none of 1 to n is 0 or beyond them.
-abbrev pub NoneOf : ℕ → ℕ → Type 0
+abbrev NoneOf : ℕ → ℕ → Type 0
 NoneOf zero k = Unit {0}
 NoneOf (suc n) k = NoneOf n k × (k ≡ suc n → ⊥)
 

@@ -112,7 +112,7 @@ unfoldable pub listedOf : Config → Clocks → ℕ → Bool
 listedOf c promised k = onIn (from k (steps c promised))
 
 -- What comes of a step, by the fields and a reading.
-abbrev pub doneOf : Op → Fields → Seen → Work
+abbrev doneOf : Op → Fields → Seen → Work
 doneOf (write w) f s = Wrote (w f)
 doneOf (wait p) f s = Waits (p s)
 doneOf (flash m) f s = Reads m

@@ -18,7 +18,7 @@ own : (adcpre : ℕ) → adcpre < 4 → Between 8 (2 * (adcpre + 1))
 own adcpre h = record { low = omega arith; high = omega arith }
 
 -- the whole divisor of an ADC source that is divided by 1 to 512: never 0, and at most 65,536
-pub total-given : (ppre2 adcpre : ℕ) {d t : ℕ} → Between 512 d → totalOf d ppre2 adcpre ≡ gives t → Between 65536 t
+total-given : (ppre2 adcpre : ℕ) {d t : ℕ} → Between 512 d → totalOf d ppre2 adcpre ≡ gives t → Between 65536 t
 unfolding totalOf
 total-given ppre2 adcpre {d} {t} h q =
     let last : ℕ → Answer ℕ = λ p. gives (d * p * (2 * (adcpre + 1))) in
