@@ -1,4 +1,4 @@
--- A configuration's bytes are given back by what is read of them: no configuration has two records. Assumes nothing.
+-- A configuration's bytes are given back by what is read of them, and it by its bytes: every configuration has one record. Assumes nothing.
 use Prim.Native.Nat.{ℕ, zero, suc, _+_, _*_, _/_, _%_, _^_, _<_}
 use mathlib.Core.Path.{_≡_, refl, sym, ap, _∙_}
 use mathlib.Core.Bool.{Bool, true, false, _&&_, _||_}
@@ -10,6 +10,7 @@ use lib.ListN.{length}
 use lib.Pow.{shr-shr}
 use Rattle.layout.specs.Bits.{bit, bitsAt}
 use Rattle.layout.proofs.Laws.{and-left, and-right}
+use Rattle.layout.proofs.Reading.{flag-of-bit}
 use Rattle.pll32.specs.declared.Hse.{Hse}
 use Rattle.pll32.specs.declared.Hse.the-variants as hse
 use Rattle.pll32.specs.declared.Source.{Source}
@@ -89,13 +90,27 @@ byte x y h =
 front : (x : ℕ) → 0 * 256 + x ≡ x
 front x = omega arith
 
--- HSE's six bytes
-abbrev pub hseBytes : Hse → List ℕ
-hseBytes hse.Absent = 0 ∷ 0 ∷ 0 ∷ 0 ∷ 0 ∷ 0 ∷ []
-hseBytes (hse.Present bypass hz) = 1 ∷ bit bypass ∷ hz / 16777216 % 256 ∷ hz / 65536 % 256 ∷ hz / 256 % 256 ∷ hz % 256 ∷ []
+-- HSE's six bytes: whether it is there, whether it is bypassed, its frequency; no and 0 where it isn't there
+abbrev pub hseThere : Hse → Bool
+hseThere hse.Absent = false
+hseThere (hse.Present bypass hz) = true
+
+abbrev pub hseBypass : Hse → Bool
+hseBypass hse.Absent = false
+hseBypass (hse.Present bypass hz) = bypass
+
+abbrev pub hseHz : Hse → ℕ
+hseHz hse.Absent = 0
+hseHz (hse.Present bypass hz) = hz
+
+unfoldable pub hseBytes : Hse → List ℕ
+hseBytes h =
+    bit (hseThere h) ∷ bit (hseBypass h)
+    ∷ hseHz h / 16777216 % 256 ∷ hseHz h / 65536 % 256 ∷ hseHz h / 256 % 256 ∷ hseHz h % 256 ∷ []
 
 module _ (p b c d e f hz : ℕ) (c8 : c < 256) (d8 : d < 256) (e8 : e < 256) (f8 : f < 256) (z : hz ≡ ((c * 256 + d) * 256 + e) * 256 + f) where
   hse-as : (t : Bool) → yes p ≡ t → hseAllowed p b hz ≡ true → hseBytes (hseOf t (yes b) hz) ≡ p ∷ b ∷ c ∷ d ∷ e ∷ f ∷ []
+  unfolding hseBytes
   hse-as true q h =
       same (sym (eqb-true p 1 q))
       (same (said b (and-right (yesOrNo p) (yesOrNo b) (and-left _ _ h)))
@@ -108,17 +123,56 @@ module _ (p b c d e f hz : ℕ) (c8 : c < 256) (d8 : d < 256) (e8 : e < 256) (f8
       (same (sym (eqb-true b 0 (and-left _ (eqb hz 0) none)))
       (same (omega (arith, z, no-hz)) (same (omega (arith, z, no-hz)) (same (omega (arith, z, no-hz)) (same (omega (arith, z, no-hz)) refl)))))
 
-module _ (l : List ℕ) (small : (i : ℕ) → at l i < 256) where
-  spelled : frequencyOf l ≡ ((at l 2 * 256 + at l 3) * 256 + at l 4) * 256 + at l 5
-  unfolding bitsAt
-  spelled =
-      let b2 = byte (at l 2) 0 (small 2) ∙ front (at l 2) in
-      let b3 = byte (at l 3) _ (small 3) ∙ ap (λ (y : ℕ). y * 256 + at l 3) b2 in
-      let b4 = byte (at l 4) _ (small 4) ∙ ap (λ (y : ℕ). y * 256 + at l 4) b3 in
-      byte (at l 5) _ (small 5) ∙ ap (λ (y : ℕ). y * 256 + at l 5) b4
+spelled : (l : List ℕ) → at l 2 < 256 → at l 3 < 256 → at l 4 < 256 → at l 5 < 256 →
+    frequencyOf l ≡ ((at l 2 * 256 + at l 3) * 256 + at l 4) * 256 + at l 5
+unfolding bitsAt
+spelled l c8 d8 e8 f8 =
+    let b2 = byte (at l 2) 0 c8 ∙ front (at l 2) in
+    let b3 = byte (at l 3) _ d8 ∙ ap (λ (y : ℕ). y * 256 + at l 3) b2 in
+    let b4 = byte (at l 4) _ e8 ∙ ap (λ (y : ℕ). y * 256 + at l 4) b3 in
+    byte (at l 5) _ f8 ∙ ap (λ (y : ℕ). y * 256 + at l 5) b4
 
+module _ (l : List ℕ) (small : (i : ℕ) → at l i < 256) where
   -- what is read of HSE's bytes gives them back
   pub hse-back : hseAllowed (at l 0) (at l 1) (frequencyOf l) ≡ true →
       hseBytes (hseOf (yes (at l 0)) (yes (at l 1)) (frequencyOf l)) ≡ listed (at l) 6
   hse-back =
-      hse-as (at l 0) (at l 1) (at l 2) (at l 3) (at l 4) (at l 5) (frequencyOf l) (small 2) (small 3) (small 4) (small 5) spelled (yes (at l 0)) refl
+      hse-as (at l 0) (at l 1) (at l 2) (at l 3) (at l 4) (at l 5) (frequencyOf l) (small 2) (small 3) (small 4) (small 5)
+      (spelled l (small 2) (small 3) (small 4) (small 5)) (yes (at l 0)) refl
+
+-- And the other way: a configuration is read of its bytes.
+
+low-byte : (n : ℕ) → n % 256 < 256
+low-byte n = omega arith
+
+low-end : (n : ℕ) → n / 256 * 256 + n % 256 ≡ n
+low-end n = omega arith
+
+four : (hz : ℕ) → hz < 4294967296 → ((hz / 16777216 % 256 * 256 + hz / 65536 % 256) * 256 + hz / 256 % 256) * 256 + hz % 256 ≡ hz
+four hz h =
+    let third : hz / 65536 ≡ hz / 256 / 256 = omega arith in
+    let fourth : hz / 16777216 % 256 ≡ hz / 256 / 256 / 256 = omega (arith, h) in
+    rw (fourth, third, low-end (hz / 256 / 256), low-end (hz / 256)) (low-end hz)
+
+-- a frequency of 32 bits, of its four bytes
+pub frequency-read : (p b hz : ℕ) (l : List ℕ) → hz < 4294967296 →
+    frequencyOf (p ∷ b ∷ hz / 16777216 % 256 ∷ hz / 65536 % 256 ∷ hz / 256 % 256 ∷ hz % 256 ∷ l) ≡ hz
+frequency-read p b hz l h =
+    spelled (p ∷ b ∷ hz / 16777216 % 256 ∷ hz / 65536 % 256 ∷ hz / 256 % 256 ∷ hz % 256 ∷ l)
+    (low-byte (hz / 16777216)) (low-byte (hz / 65536)) (low-byte (hz / 256)) (low-byte hz) ∙ four hz h
+
+pub hse-says : (h : Hse) → hseAllowed (bit (hseThere h)) (bit (hseBypass h)) (hseHz h) ≡ true
+hse-says hse.Absent = refl
+hse-says (hse.Present bypass hz) = rw (bit-says bypass) refl
+
+pub hse-read : (h : Hse) → hseOf (yes (bit (hseThere h))) (yes (bit (hseBypass h))) (hseHz h) ≡ h
+hse-read hse.Absent = refl
+hse-read (hse.Present bypass hz) = ap (λ (b : Bool). hse.Present b hz) (flag-of-bit bypass)
+
+pub source-says : (s : Source) → yesOrNo (sourceByte s) ≡ true
+source-says source.Hsi = refl
+source-says source.Hse = refl
+
+pub source-read : (s : Source) → sourceOf (yes (sourceByte s)) ≡ s
+source-read source.Hsi = refl
+source-read source.Hse = refl

@@ -16,12 +16,26 @@ use Rattle.v1.specs.declared.Config.{Config}
 use Rattle.v1.specs.declared.Fields.{Fields}
 use Rattle.v1.specs.V1.{lessOf}
 use Rattle.capi_bytes.specs.Bytes.{at, yes, yesOrNo, frequencyOf, hseAllowed}
-use Rattle.capi_bytes.specs.Records.{listed, entries, same, said-as, bit-says, or-else, sourceByte, source-back, hseBytes, hse-back}
+use Rattle.capi_bytes.specs.Records.{listed, entries, same, said-as, bit-says, or-else, sourceByte, source-back, source-says, source-read, hseThere, hseBypass, hseHz, hseBytes, hse-back, hse-says, hse-read, frequency-read}
+use Rattle.layout.specs.Bits.{bit}
+use Rattle.v1.specs.declared.PllPreDiv.the-variants as prediv
 use Rattle.capi_v1.specs.Calls.{pllOf, configOf, configAllowed, readConfig, readFields, bytesOf}
 
-abbrev pub pllBytes : Pll → List ℕ
-pllBytes pll.Absent = 0 ∷ 0 ∷ 0 ∷ []
-pllBytes (pll.Present prediv mul) = 1 ∷ lessOf prediv ∷ mul ∷ []
+-- a PLL's three bytes: whether it is there, whether its input is halved, its multiplier's code
+abbrev pub pllThere : Pll → Bool
+pllThere pll.Absent = false
+pllThere (pll.Present prediv mul) = true
+
+abbrev pub pllLess : Pll → ℕ
+pllLess pll.Absent = 0
+pllLess (pll.Present prediv mul) = lessOf prediv
+
+abbrev pub pllMul : Pll → ℕ
+pllMul pll.Absent = 0
+pllMul (pll.Present prediv mul) = mul
+
+unfoldable pub pllBytes : Pll → List ℕ
+pllBytes p = bit (pllThere p) ∷ pllLess p ∷ pllMul p ∷ []
 
 -- the record of a configuration
 unfoldable pub configBytes : Config → List ℕ
@@ -34,6 +48,7 @@ module _ (p h mul : ℕ) (allowed : (yesOrNo p && yesOrNo h && (yes p || eqb h 0
   here = and-left (yesOrNo p) (yesOrNo h) (and-left _ _ allowed)
 
   pll-as : (t u : Bool) → yes p ≡ t → yes h ≡ u → pllBytes (pllOf t u mul) ≡ p ∷ h ∷ mul ∷ []
+  unfolding pllBytes
   pll-as true true e q = same (sym (eqb-true p 1 e)) (same (sym (eqb-true h 1 q)) refl)
   pll-as true false e q =
       same (sym (eqb-true p 1 e)) (same (said-as h false q (and-right (yesOrNo p) (yesOrNo h) (and-left _ _ allowed))) refl)
@@ -63,6 +78,31 @@ one-record l small c e =
     let long : length l ≡ 14 = eqb-true (length l) 14 (not-false (eqb (length l) 14) (sized .failed)) in
     let read : configOf l ≡ c = cc (allowed .after) in
     entries l ∙ ap (listed (at l)) long ∙ sym (back l small (not-false (configAllowed l) (allowed .failed))) ∙ ap configBytes read
+
+pll-says : (p : Pll) → (yesOrNo (bit (pllThere p)) && yesOrNo (pllLess p) && (yes (bit (pllThere p)) || eqb (pllLess p) 0 && eqb (pllMul p) 0)) ≡ true
+pll-says pll.Absent = refl
+pll-says (pll.Present prediv.Div1 mul) = refl
+pll-says (pll.Present prediv.Div2 mul) = refl
+
+pll-read : (p : Pll) → pllOf (yes (bit (pllThere p))) (yes (pllLess p)) (pllMul p) ≡ p
+pll-read pll.Absent = refl
+pll-read (pll.Present prediv.Div1 mul) = refl
+pll-read (pll.Present prediv.Div2 mul) = refl
+
+-- and every configuration has it: its bytes are read as the configuration
+pub config-read-back : (c : Config) → hseHz (c .hse) < 4294967296 → readConfig (configBytes c) ≡ gives c
+unfolding readConfig configBytes hseBytes pllBytes configAllowed configOf
+config-read-back c fits =
+    rw (
+      frequency-read (bit (hseThere (c .hse))) (bit (hseBypass (c .hse))) (hseHz (c .hse)) _ fits,
+      hse-says (c .hse),
+      source-says (c .«pll_src»),
+      pll-says (c .pll),
+      hse-read (c .hse),
+      source-read (c .«pll_src»),
+      pll-read (c .pll),
+    )
+    refl
 
 -- the bytes that fields are given as are read as these fields
 pub fields-read-back : (f : Fields) → readFields (bytesOf f) ≡ gives f

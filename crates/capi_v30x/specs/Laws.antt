@@ -21,21 +21,41 @@ use Rattle.v30x.specs.declared.HsPll.the-variants as hspll
 use Rattle.v30x.specs.declared.Config.{Config}
 use Rattle.v30x.specs.declared.Fields.{Fields}
 use Rattle.capi_bytes.specs.Bytes.{at, yes, yesOrNo, frequencyOf, hseAllowed}
-use Rattle.capi_bytes.specs.Records.{listed, entries, same, said, said-as, bit-says, or-else, sourceByte, source-back, hseBytes, hse-back}
+use Rattle.capi_bytes.specs.Records.{listed, entries, same, said, said-as, bit-says, or-else, sourceByte, source-back, source-says, source-read, hseThere, hseBypass, hseHz, hseBytes, hse-back, hse-says, hse-read, frequency-read}
 use Rattle.capi_v30x.specs.Calls.{pllOf, hsPllOf, configOf, pllAllowed, usbhsAllowed, configAllowed, readConfig, readFields, bytesOf}
 
-abbrev pllSourceByte : PllSource → ℕ
+abbrev pub pllSourceByte : PllSource → ℕ
 pllSourceByte source.Hsi = 0
 pllSourceByte source.Hse = 1
 pllSourceByte source.Pll2 = 2
 
-abbrev pub pllBytes : Pll → List ℕ
-pllBytes pll.Absent = 0 ∷ 0 ∷ 0 ∷ []
-pllBytes (pll.Present prediv mul) = 1 ∷ prediv ∷ mul ∷ []
+-- a PLL's three bytes: whether it is there, its predivider's code, its multiplier's
+abbrev pub pllThere : Pll → Bool
+pllThere pll.Absent = false
+pllThere (pll.Present prediv mul) = true
 
-abbrev hsPllBytes : HsPll → List ℕ
-hsPllBytes hspll.Absent = 0 ∷ 0 ∷ []
-hsPllBytes (hspll.Present pre) = 1 ∷ pre ∷ []
+abbrev pub pllLess : Pll → ℕ
+pllLess pll.Absent = 0
+pllLess (pll.Present prediv mul) = prediv
+
+abbrev pub pllMul : Pll → ℕ
+pllMul pll.Absent = 0
+pllMul (pll.Present prediv mul) = mul
+
+unfoldable pub pllBytes : Pll → List ℕ
+pllBytes p = bit (pllThere p) ∷ pllLess p ∷ pllMul p ∷ []
+
+-- the USBHS PLL's two: whether it is there, its prescaler's code
+abbrev pub hsPllThere : HsPll → Bool
+hsPllThere hspll.Absent = false
+hsPllThere (hspll.Present pre) = true
+
+abbrev pub hsPllLess : HsPll → ℕ
+hsPllLess hspll.Absent = 0
+hsPllLess (hspll.Present pre) = pre
+
+unfoldable pub hsPllBytes : HsPll → List ℕ
+hsPllBytes p = bit (hsPllThere p) ∷ hsPllLess p ∷ []
 
 -- the record of a configuration
 unfoldable pub configBytes : Config → List ℕ
@@ -55,6 +75,7 @@ source-as x false false e q h =
 
 pll-as : (p pre mul : ℕ) (t : Bool) → yes p ≡ t → yesOrNo p ≡ true → (yes p || eqb pre 0 && eqb mul 0) ≡ true →
     pllBytes (pllOf t pre mul) ≡ p ∷ pre ∷ mul ∷ []
+unfolding pllBytes
 pll-as p pre mul true e h q = same (sym (eqb-true p 1 e)) refl
 pll-as p pre mul false e h q =
     let none : (eqb pre 0 && eqb mul 0) ≡ true = or-else (yes p) _ e q in
@@ -62,6 +83,7 @@ pll-as p pre mul false e h q =
     (same (sym (eqb-true pre 0 (and-left _ (eqb mul 0) none))) (same (sym (eqb-true mul 0 (and-right (eqb pre 0) _ none))) refl))
 
 hspll-as : (p pre : ℕ) (t : Bool) → yes p ≡ t → yesOrNo p ≡ true → (yes p || eqb pre 0) ≡ true → hsPllBytes (hsPllOf t pre) ≡ p ∷ pre ∷ []
+unfolding hsPllBytes
 hspll-as p pre true e h q = same (sym (eqb-true p 1 e)) refl
 hspll-as p pre false e h q = same (said-as p false e h) (same (sym (eqb-true pre 0 (or-else (yes p) _ e q))) refl)
 
@@ -96,6 +118,55 @@ one-record l small c e =
     let long : length l ≡ 18 = eqb-true (length l) 18 (not-false (eqb (length l) 18) (sized .failed)) in
     let read : configOf l ≡ c = cc (allowed .after) in
     entries l ∙ ap (listed (at l)) long ∙ sym (back l small (not-false (configAllowed l) (allowed .failed))) ∙ ap configBytes read
+
+pll-source-says : (s : PllSource) → leb (pllSourceByte s) 2 ≡ true
+pll-source-says source.Hsi = refl
+pll-source-says source.Hse = refl
+pll-source-says source.Pll2 = refl
+
+pll-source-read : (s : PllSource) → cond (eqb (pllSourceByte s) 0) source.Hsi (cond (eqb (pllSourceByte s) 1) source.Hse source.Pll2) ≡ s
+pll-source-read source.Hsi = refl
+pll-source-read source.Hse = refl
+pll-source-read source.Pll2 = refl
+
+pll-says : (p : Pll) → (yes (bit (pllThere p)) || eqb (pllLess p) 0 && eqb (pllMul p) 0) ≡ true
+pll-says pll.Absent = refl
+pll-says (pll.Present prediv mul) = refl
+
+pll-read : (p : Pll) → pllOf (yes (bit (pllThere p))) (pllLess p) (pllMul p) ≡ p
+pll-read pll.Absent = refl
+pll-read (pll.Present prediv mul) = refl
+
+hspll-says : (p : HsPll) → (yes (bit (hsPllThere p)) || eqb (hsPllLess p) 0) ≡ true
+hspll-says hspll.Absent = refl
+hspll-says (hspll.Present pre) = refl
+
+hspll-read : (p : HsPll) → hsPllOf (yes (bit (hsPllThere p))) (hsPllLess p) ≡ p
+hspll-read hspll.Absent = refl
+hspll-read (hspll.Present pre) = refl
+
+-- and every configuration has it: its bytes are read as the configuration
+pub config-read-back : (c : Config) → hseHz (c .hse) < 4294967296 → readConfig (configBytes c) ≡ gives c
+unfolding readConfig configBytes hseBytes pllBytes hsPllBytes configAllowed configOf
+config-read-back c fits =
+    rw (
+      frequency-read (bit (hseThere (c .hse))) (bit (hseBypass (c .hse))) (hseHz (c .hse)) _ fits,
+      hse-says (c .hse),
+      pll-source-says (c .«pll_src»),
+      bit-says (pllThere (c .pll)),
+      pll-says (c .pll),
+      bit-says (c .pllx),
+      source-says (c .«hspll_src»),
+      bit-says (hsPllThere (c .hspll)),
+      hspll-says (c .hspll),
+      hse-read (c .hse),
+      pll-source-read (c .«pll_src»),
+      pll-read (c .pll),
+      flag-of-bit (c .pllx),
+      source-read (c .«hspll_src»),
+      hspll-read (c .hspll),
+    )
+    refl
 
 -- the bytes that fields are given as are read as these fields
 pub fields-read-back : (f : Fields) → readFields (bytesOf f) ≡ gives f
