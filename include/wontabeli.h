@@ -1,15 +1,21 @@
 /* The clock library's calls for C99 and C++.
  *
- * Every call returns a number: 0, or the refusal that comes first in document 01's order (wontabeli_numbers.h, docs/REFUSALS.md).
+ * Every call returns a number: 0, or the refusal that comes first in document 01's order (wontabeli_numbers.h, docs/REFUSALS.md). One thing is told
+ * otherwise: wontabeli_step returns 0 also where the startup ends by 21, 22 or 23, and byte 27 of its place says so.
  * What a call gives goes into memory that the caller lends, at its start: frequencies as words of 32 bits, records as bytes. After a refusal
  * nothing that was lent is touched; after a call that is not refused what is beyond the record isn't. A number of several bytes in a record has
  * the most significant byte first. A byte that says yes or no is 1 or 0.
  *
- * A pointer is valid and aligned for its type and its length, and lent memory overlaps nothing else that the call is handed. Lengths are never
- * trusted otherwise: one that doesn't fit is refused. A length that is lent for output is tested first (32). No call keeps a pointer, allocates,
- * or has a state. Lengths of words count words.
+ * A pointer is valid and aligned for its type and its length, and never null, also where its length is 0; lent memory overlaps nothing else that
+ * the call is handed. Lengths are never trusted otherwise: one that doesn't fit is refused. A length that is lent for output is tested first (32).
+ * Lengths of words count words; an output without a length is one word.
  *
- * All sizes and places are in wontabeli_numbers.h.
+ * No call keeps a pointer, allocates, or has a state. Calls may run at the same time, in threads or interrupts, each on memory that no other
+ * uses meanwhile. The archive (include/archive) is for x86-64 hosts, not for the chips.
+ *
+ * Sizes are in wontabeli_numbers.h, and so are the places in what is given, in the fields of a profile and an image, and in a startup's place.
+ * The places in the records of V1, L1 and V30x stand below, at their calls. Names of sizes and places are written here without their
+ * WONTABELI_. docs/FORMATS.md says what each code means.
  */
 #ifndef WONTABELI_H
 #define WONTABELI_H
@@ -28,7 +34,8 @@ extern "C" {
  * Refused by 32, 29 (profile_len not 10), 30, then by the check's 1 to 16. */
 uint8_t wontabeli_check(const uint8_t *profile, size_t profile_len, uint32_t *out, size_t out_len);
 
-/* Decodes an image of eight bytes, with HSE's frequency in Hz, or 0 where there is no HSE. Gives CLOCKS_WORDS words, the clocks in the same order.
+/* Decodes an image of eight bytes, with HSE's frequency in Hz. 0 means that there is no HSE, here and in the decoders below: they can't be handed an
+ * HSE of 0 Hz. Gives CLOCKS_WORDS words, the clocks in the same order.
  * Refused by 32, 31 (image_len not 8, or filling), then by 3, 4, 5, 6, 8, 12, 17, 18, 19, 20. */
 uint8_t wontabeli_decode(const uint8_t *image, size_t image_len, uint32_t hse, uint32_t *out, size_t out_len);
 
@@ -54,9 +61,9 @@ uint8_t wontabeli_write_image(const uint8_t *fields, size_t fields_len, uint8_t 
 
 /* ---- CH32V4x7: the startup ----
  *
- * The host keeps a startup in a place of PLACE_SIZE bytes, which it hands to each call unchanged:
+ * The host keeps a startup in a place of PLACE_SIZE bytes, which it hands to each call unchanged, until byte 27 is not 0:
  *   0..9    the profile
- *   10..17  the image: after a call the host writes its fields to the chip
+ *   10..17  the image: the fields that the host writes to the chip
  *   18      the step whose turn it is
  *   19..22  the unmet readings of its wait
  *   23..26  all readings used
@@ -64,16 +71,23 @@ uint8_t wontabeli_write_image(const uint8_t *fields, size_t fields_len, uint8_t 
  *   28      how the last call went: WORKED (the step is worked), WAITING (the reading did not meet the step's wait), RUNNING (over: the clocks run
  *           as the check promised), FAILED (over, by the refusal in byte 29)
  *   29      its refusal: 0, 21, 22 or 23
- *   30      the step that it names: at 19 the host writes the keys; 0 before the first call and with 23
+ *   30      the step that it names; 0 before the first call and with 23
  *   31      zero
- * A call doesn't look at the last four. */
+ * A call doesn't look at the last four.
+ *
+ * After each call that returns 0 the host writes to the chip, in this order:
+ *   1. the image's fields that changed, but never the ready bits and SWS, which only the chip writes. Where byte 30 is 20: SCKMOD, LOCK and FLOCK
+ *      in one write, changed or not, since the keys have opened the locks;
+ *   2. where byte 28 is WORKED and byte 30 is 19: the four keys (wontabeli_flash_key).
+ * LOCK and FLOCK, written again after the keys, lock the flash, and step 21 ends by 22. docs/STARTUP.md has the steps and a driving loop. */
 
 /* Starts a startup with a profile and the image of the registers as they are. It works no step.
  * Refused by 32, 29, 30, 31, then by the check's 1 to 16. */
 uint8_t wontabeli_start(const uint8_t *profile, size_t profile_len, const uint8_t *image, size_t image_len, uint8_t *place, size_t place_len);
 
-/* One call: one step's work done or one reading used; the place says how it went. After the end it repeats its last answer. The reading is the sum
- * of HSIRDY, HSERDY, PLLRDY, USBHS_PLLRDY and ETH_PLLRDY where they are set, SWS times its value and SCKMOD times its value; bits above are not looked at.
+/* One call: one step's work done or one reading used; the place says how it went. It returns 0 also where the startup ends by 21, 22 or 23: call
+ * until byte 27 is not 0. After the end it repeats its last answer. The reading is the sum of HSIRDY, HSERDY, PLLRDY, USBHS_PLLRDY and
+ * ETH_PLLRDY where they are set, SWS times its value and SCKMOD times its value; bits above are not looked at.
  * Refused by 32; by 30, 31 or 28 where no starting leads to these bytes, which then stay. */
 uint8_t wontabeli_step(uint8_t *place, size_t place_len, uint16_t reading);
 
@@ -81,7 +95,8 @@ uint8_t wontabeli_step(uint8_t *place, size_t place_len, uint16_t reading);
  * the key. Refused by 32; by 28 above 3. */
 uint8_t wontabeli_flash_key(uint8_t position, uint32_t *out, size_t out_len);
 
-/* How many waits a profile's startup has, and within how many calls it is over. Refused by 29, 30. */
+/* How many waits a profile's startup has, and within how many calls it is over. The check is not asked: a profile that it refuses has numbers too.
+ * Refused by 29, 30. */
 uint8_t wontabeli_waits_owed(const uint8_t *profile, size_t profile_len, uint32_t *out);
 uint8_t wontabeli_call_bound(const uint8_t *profile, size_t profile_len, uint32_t *out);
 
@@ -95,10 +110,12 @@ uint8_t wontabeli_call_bound(const uint8_t *profile, size_t profile_len, uint32_
 /* Checks a configuration. Gives CHECK_WORDS words: the clocks, and twice the USB divisor for 48 MHz, or 0 where there is none. Then refused by 3, 24, 20, 26. */
 uint8_t wontabeli_v1_check(uint8_t part, const uint8_t *config, size_t config_len, uint32_t *out, size_t out_len);
 
-/* Decodes fields, with HSE's frequency in Hz, or 0 where there is no HSE. Gives CLOCKS_WORDS words. Then refused by 3, 24. */
+/* Decodes fields, with HSE's frequency in Hz, or 0 where there is no HSE. Gives CLOCKS_WORDS words. Then refused by 3, 24. (A configuration that
+ * runs from an HSE of 0 Hz is accepted, all its clocks 0; its fields are refused here by 3.) */
 uint8_t wontabeli_v1_decode(uint8_t part, const uint8_t *fields, size_t fields_len, uint32_t hse, uint32_t *out, size_t out_len);
 
-/* The fields that starting a configuration leaves, over earlier fields: V1_FIELDS_SIZE bytes. Then refused as the check is. */
+/* The fields that starting a configuration leaves, over earlier fields: V1_FIELDS_SIZE bytes. They are the fields at the end, and not a list of
+ * writes: byte 0 is what SWS then reads. Then refused as the check is. */
 uint8_t wontabeli_v1_init_fields(uint8_t part, const uint8_t *config, size_t config_len, const uint8_t *earlier, size_t earlier_len, uint8_t *out, size_t out_len);
 
 /* ---- CH32V30x ----
@@ -126,7 +143,8 @@ uint8_t wontabeli_h4_hclk(uint32_t ahb, uint8_t fpre, uint32_t *out);
 /* PCLK after PPRE and its timers' clock, PAIR_WORDS words. Refused by 32, then by 28. */
 uint8_t wontabeli_h4_pclk(uint32_t hclk, uint8_t ppre, uint32_t *out, size_t out_len);
 
-/* The PLL's multiplier at a position of the list, doubled. Refused by 28 (above 31). */
+/* The PLL's multiplier at a position of the list, doubled. Positions 0 to 31 are the multipliers 4, 6, 7, 8, 8.5, 9, 9.5, 10, 10.5, 11, 11.5, 12, 12.5,
+ * 13, 14, 15, 16, 17, 18, 19, 20, 22, 24, 26, 28, 30, 32, 34, 36, 38, 40, 59. Refused by 28 (above 31). */
 uint8_t wontabeli_h4_multiplier(uint8_t position, uint32_t *out);
 
 #ifdef __cplusplus

@@ -36,7 +36,7 @@
 #define WONTABELI_IMAGE_LENGTH_OR_FILLING 31 /* Image not 8 bytes, or filling not zero. */
 #define WONTABELI_OUTPUT_TOO_SHORT 32 /* Lent output shorter than the record. */
 
-/* The clocks, by their place in what a check or a decoder gives; MORE is the number behind them. */
+/* The clocks, by their place in what a check or a decoder gives; MORE is the number after them. */
 #define WONTABELI_SYSCLK 0
 #define WONTABELI_HCLK 1
 #define WONTABELI_PCLK1 2
@@ -58,7 +58,7 @@
 
 /* The numbers of crates/capi_startup. */
 #define WONTABELI_PLACE_SIZE 32 /* A place's bytes. Its first ten are the profile. */
-#define WONTABELI_PLACE_IMAGE 10 /* The image, eight bytes: after a call the host writes its fields to the chip. */
+#define WONTABELI_PLACE_IMAGE 10 /* The image, eight bytes: after a call the host writes its fields to the chip, but for the ready bits and SWS. */
 #define WONTABELI_PLACE_STEP 18 /* The step whose turn it is. */
 #define WONTABELI_PLACE_UNMET 19 /* The unmet readings of its wait, four bytes. */
 #define WONTABELI_PLACE_USED 23 /* All readings used, four bytes. */

@@ -39,6 +39,7 @@ fn profiles() {
     assert_eq!(Config::default().to_profile(), Ok([0, 0, 0, 0, 0, 0x18, 0, 0, 0, 0x34]));
     assert_eq!(check(&profile[..9]), Err(Refusal::ProfileLength));
     assert_eq!(Refusal::ProfileLength.number(), 29);
+    assert_eq!(Refusal::ProfileLength.to_string(), "Profile not 10 bytes.");
 }
 
 fn images() {
@@ -73,17 +74,87 @@ fn startups() {
     assert_eq!(FlashKey::at(4), Err(Refusal::CodeNotAllowed));
 }
 
+// How startups end. Waits 2, 4, 7 and 27 take one reading each, and so does step 21.
+fn ends() {
+    let started = || Startup::start(&[0, 0, 0, 0, 0, 0x18, 0, 0, 0, 0x34], &[0; 8]).unwrap();
+    let good = Reading { hsirdy: true, ..Reading::default() };
+    let until_over = |startup: &mut Startup, reading| loop {
+        match startup.step(reading).unwrap() {
+            Report::Worked { .. } | Report::Waiting { .. } => {}
+            report => return report,
+        }
+    };
+    let mut startup = started();
+    assert_eq!(until_over(&mut startup, Reading::default()), Report::Failed { refusal: Refusal::WaitFailed, step: 2, used: 1_000_000 });
+    let other_mode = Reading { sckmod: 1, ..good };
+    assert_eq!(until_over(&mut started(), other_mode), Report::Failed { refusal: Refusal::FlashModeDiffers, step: 21, used: 4 });
+    let mut startup = started();
+    while startup.bytes()[PLACE_STEP] != 28 {
+        startup.step(good).unwrap();
+    }
+    let mut place = startup.bytes();
+    assert_eq!(startup.step(good), Ok(Report::Running { step: 28, used: 5 }));
+    // HPRE changed from 0 to 8: HCLK 10 MHz and not 20
+    let mut fields = read_image(&startup.image()).unwrap();
+    fields[IMAGE_HPRE] = 8;
+    place[PLACE_IMAGE..PLACE_IMAGE + IMAGE_SIZE].copy_from_slice(&write_image(&fields).unwrap());
+    assert_eq!(Startup::from_bytes(place).step(good), Ok(Report::Failed { refusal: Refusal::ClocksDiffer, step: 0, used: 5 }));
+    place[PLACE_STEP] = 0;
+    assert_eq!(Startup::from_bytes(place).step(good), Err(Refusal::CodeNotAllowed));
+}
+
+// A chip whose flash takes SCKMOD only while it is unlocked: by the keys in their order, until LOCK is written.
+struct Locked {
+    fields: [u8; IMAGE_FIELDS],
+    sckmod: u8,
+    keys: u8,
+}
+
+impl Chip for Locked {
+    fn write(&mut self, image: [u8; IMAGE_SIZE]) {
+        self.fields = read_image(&image).unwrap();
+        if self.keys == 4 {
+            self.sckmod = self.fields[IMAGE_SCKMOD];
+        }
+        if self.fields[IMAGE_LOCK] == 1 {
+            self.keys = 0;
+        }
+    }
+
+    fn write_key(&mut self, key: FlashKey) {
+        assert_eq!(FlashKey::at(self.keys), Ok(key));
+        self.keys += 1;
+    }
+
+    fn read(&mut self) -> Reading {
+        let f = self.fields;
+        Reading { hsirdy: f[IMAGE_HSION] == 1, pllrdy: f[IMAGE_PLLON] == 1, sws: f[IMAGE_SW], sckmod: self.sckmod, ..Reading::default() }
+    }
+}
+
+// HSI x 20 by 2 (row A5): above 100 MHz, so SCKMOD is 1; one wait more, 18. The flash is locked before. The keys come after step 19's fields.
+fn runs() {
+    let locked = [0, 0, 0, 0, 0, 0, 0, 0x60];
+    let mut chip = Locked { fields: read_image(&locked).unwrap(), sckmod: 0, keys: 0 };
+    let mut startup = Startup::start(&[0, 0, 0, 0, 0x26, 0x98, 0x80, 0, 0, 0x34], &locked).unwrap();
+    assert_eq!(startup.run(&mut chip), Ok(Report::Running { step: 28, used: 6 }));
+    assert_eq!((chip.sckmod, chip.keys), (1, 0));
+}
+
 fn families() {
     let hse = Some(Hse { bypass: false, freq: 8_000_000 });
     let hz = NonZeroU32::new(8_000_000);
     let config = v1::Config { hse, sys: 2, pll_from_hse: true, pll: Some(v1::Pll { halved: true, mul: 7 }), apb1_pre: 4, ..v1::Config::default() };
     let run = clocks(36_000_000, 36_000_000, 18_000_000, 36_000_000, 36_000_000, 36_000_000);
-    assert_eq!(v1::check(v1::Chip::V1, &config), Ok((run, None)));
-    let fields = v1::init_fields(v1::Chip::V1, &config, &[0, 0, 0, 0, 0, 0, 0, 1]).unwrap();
+    assert_eq!(v1::check(v1::Part::V1, &config), Ok(v1::Checked { clocks: run, usb_divisor_x2: None }));
+    let fields = v1::init_fields(v1::Part::V1, &config, &[0, 0, 0, 0, 0, 0, 0, 1]).unwrap();
     assert_eq!(fields, [2, 1, 1, 7, 0, 4, 0, 1]);
-    assert_eq!(v1::decode(v1::Chip::V1, &fields, hz), Ok(run));
+    assert_eq!(v1::decode(v1::Part::V1, &fields, hz), Ok(run));
     let whole = v1::Config { pll: Some(v1::Pll { halved: false, mul: 15 }), ..config };
-    assert_eq!(v1::check(v1::Chip::L1, &whole).map(|x| x.0.sysclk), Ok(144_000_000));
+    assert_eq!(v1::check(v1::Part::L1, &whole).map(|x| x.clocks.sysclk), Ok(144_000_000));
+    // 8 MHz x 9 is 72 MHz, by 1.5
+    let usb = v1::Config { pll: Some(v1::Pll { halved: false, mul: 7 }), ..config };
+    assert_eq!(v1::check(v1::Part::V1, &usb).map(|x| x.usb_divisor_x2), Ok(Some(3)));
 
     let config = v30x::Config {
         hse,
@@ -97,13 +168,13 @@ fn families() {
         ..v30x::Config::default()
     };
     let run = clocks(72_000_000, 36_000_000, 36_000_000, 18_000_000, 36_000_000, 36_000_000);
-    assert_eq!(v30x::check(&config), Ok((run, None)));
+    assert_eq!(v30x::check(&config), Ok(v30x::Checked { clocks: run, usb_divisor_x2: None }));
     let fields = v30x::init_fields(&config, &[0; V30X_FIELDS_SIZE]).unwrap();
     assert_eq!(fields, [2, 1, 1, 0, 0, 8, 0, 4, 0]);
     assert_eq!(v30x::decode(&fields, hz), Ok(run));
     assert_eq!(v30x::check(&v30x::Config { pllx: true, ..config }), Err(Refusal::Pll2OrPll3));
     let whole = v30x::Config { pll: Some(v30x::Pll { prediv: 0, mul: 0 }), ..config };
-    assert_eq!(v30x::check(&whole).map(|x| x.1), Ok(Some(6)));
+    assert_eq!(v30x::check(&whole).map(|x| x.usb_divisor_x2), Ok(Some(6)));
 
     let codes = h4::Prescale { hpre: 8, fpre: 2, ppre1: 4, ppre2: 5 };
     let run = clocks(400_000_000, 50_000_000, 25_000_000, 12_500_000, 25_000_000, 12_500_000);
@@ -118,6 +189,8 @@ fn main() {
     profiles();
     images();
     startups();
+    ends();
+    runs();
     families();
     println!("calls: every wrapper of the Rust crate is right");
 }

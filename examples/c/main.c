@@ -44,8 +44,11 @@ static int start(int crystal)
     chip.crystal = crystal;
     while (number == 0 && place[WONTABELI_PLACE_PHASE] == 0) {
         number = wontabeli_step(place, sizeof place, read_chip(&chip));
+        if (number != 0) break;
+        /* The fields first: on a chip those that changed, but never the ready bits and SWS; at step 20 SCKMOD, LOCK and FLOCK in any case. */
         memcpy(chip.image, place + WONTABELI_PLACE_IMAGE, sizeof chip.image);
-        if (place[WONTABELI_PLACE_NAMED] == 19) write_keys(&chip);
+        /* Then the keys: LOCK and FLOCK written after them would lock the flash again. */
+        if (place[WONTABELI_PLACE_WENT] == WONTABELI_WORKED && place[WONTABELI_PLACE_NAMED] == 19) write_keys(&chip);
     }
     if (number != 0) {
         printf("refused %u\n", number);

@@ -2,7 +2,8 @@
 
 use crate::answer::{answer, By, Excluding};
 use crate::gen::Queries;
-use crate::record::{hex, name_of, Answer, Query, ANSWER, QUERY};
+use crate::panics::quietly;
+use crate::record::{hex, name_of, Answer, Query, ANSWER, KINDS, QUERY};
 use crate::summary::Summary;
 use std::io::{BufReader, BufWriter, Read, Write};
 use std::process::{Child, ChildStdout, Command, Stdio};
@@ -142,8 +143,12 @@ fn trimmed(query: &Query) -> &[u8] {
 
 /// One query, written as `show` writes it.
 pub fn one(text: &str, program: &str, excluding: Excluding) -> Result<bool, String> {
-    let query = parsed(text).ok_or("a query is at most 128 bytes in hexadecimal")?;
-    let (expected, by) = answer(&query, excluding);
+    let query = parsed(text).ok_or("a query is at most 128 bytes in hexadecimal, two digits each")?;
+    if !KINDS.iter().any(|row| row.0 == query[0]) {
+        return Err(format!("there is no kind 0x{:02x} (oracle/README.md lists them)", query[0]));
+    }
+    let (expected, by) = quietly(|| answer(&query, excluding))
+        .ok_or("this query holds what is never asked (oracle/README.md has the bytes)")?;
     let mut child = spawn(program)?;
     let sender = send(&mut child, std::iter::once(query));
     let mut pipe = BufReader::new(child.stdout.take().expect("stdout is a pipe"));
@@ -161,7 +166,7 @@ pub fn one(text: &str, program: &str, excluding: Excluding) -> Result<bool, Stri
 
 fn parsed(text: &str) -> Option<Query> {
     let mut query = [0; QUERY];
-    if text.is_empty() || text.len() % 2 != 0 || text.len() > 2 * QUERY || !text.is_ascii() {
+    if text.is_empty() || text.len() % 2 != 0 || text.len() > 2 * QUERY || !text.bytes().all(|digit| digit.is_ascii_hexdigit()) {
         return None;
     }
     for (i, byte) in query.iter_mut().enumerate().take(text.len() / 2) {

@@ -15,7 +15,7 @@ mod summary;
 use std::process::exit;
 
 const USAGE: &str = "usage: oracle compare SEED COUNT PROGRAM | list FILE PROGRAM | query HEX PROGRAM | record SEED CRATES | check SEED CRATES | \
-                     answer | rows\n       --listed behind it: listed differences are not left out (for the test of the comparison)";
+                     answer | rows\n       --listed after it: listed differences are not left out (the Rust's own answer to one, and the test of the comparison)";
 
 fn main() {
     panics::note_panics();

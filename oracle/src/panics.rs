@@ -12,6 +12,8 @@ struct Panic {
 thread_local! {
     /// Whether the Rust is being asked: its panics are noted, all others printed.
     static ASKING: Cell<bool> = Cell::new(false);
+    /// Whether no panic is printed.
+    static QUIET: Cell<bool> = Cell::new(false);
     static LAST: RefCell<Option<Panic>> = RefCell::new(None);
 }
 
@@ -61,7 +63,9 @@ pub fn note_panics() {
     let usual = std::panic::take_hook();
     std::panic::set_hook(Box::new(move |info| {
         if !ASKING.with(Cell::get) {
-            usual(info);
+            if !QUIET.with(Cell::get) {
+                usual(info);
+            }
             return;
         }
         let payload = info.payload();
@@ -86,6 +90,14 @@ pub fn caught<T>(source: &str, work: impl FnOnce() -> T) -> Result<T, Option<u8>
         Err(thrown) if thrown.is::<hal_v4x7::script::Stopped>() => Err(None),
         Err(_) => Err(Some(number_of_last(source))),
     }
+}
+
+/// What `work` gives; none where it panics, of which nothing is printed.
+pub fn quietly<T>(work: impl FnOnce() -> T) -> Option<T> {
+    QUIET.with(|quiet| quiet.set(true));
+    let result = catch_unwind(AssertUnwindSafe(work));
+    QUIET.with(|quiet| quiet.set(false));
+    result.ok()
 }
 
 fn number_of_last(source: &str) -> u8 {

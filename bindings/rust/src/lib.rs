@@ -1,5 +1,5 @@
 //! Safe types over the proved clock library. Each call gives what include/wontabeli.h says of it, or the refusal that comes first in document 01's
-//! order. Nothing here decides anything: records are laid out and taken apart, and handed on.
+//! order. Nothing here decides anything: records are laid out and taken apart, and handed on. The codes are those of docs/FORMATS.md.
 #![no_std]
 
 pub mod h4;
@@ -11,6 +11,7 @@ mod calls;
 mod profile;
 mod refusal;
 mod startup;
+mod usb;
 mod v4x7;
 
 pub use profile::{read_image, write_image, AdcClockSource, Config, Hse};
@@ -52,7 +53,7 @@ fn result(number: u8) -> Result<(), Refusal> {
     }
 }
 
-// HSE's frequency as a decoder takes it.
+// HSE's frequency as a decoder takes it: 0 for none. So an HSE of 0 Hz can't be handed over.
 fn hertz(hse: Option<NonZeroU32>) -> u32 {
     hse.map_or(0, NonZeroU32::get)
 }

@@ -1,6 +1,6 @@
 // Made by include/numbers; change the crates and run it again.
 
-// The clocks, by their place in what a check or a decoder gives; MORE is the number behind them.
+// The clocks, by their place in what a check or a decoder gives; MORE is the number after them.
 pub const SYSCLK: usize = 0;
 pub const HCLK: usize = 1;
 pub const PCLK1: usize = 2;
@@ -30,7 +30,7 @@ pub const IMAGE_FIELDS: usize = 34;
 // The numbers of crates/capi_startup.
 /// A place's bytes. Its first ten are the profile.
 pub const PLACE_SIZE: usize = 32;
-/// The image, eight bytes: after a call the host writes its fields to the chip.
+/// The image, eight bytes: after a call the host writes its fields to the chip, but for the ready bits and SWS.
 pub const PLACE_IMAGE: usize = 10;
 /// The step whose turn it is.
 pub const PLACE_STEP: usize = 18;

@@ -1,6 +1,8 @@
 // Made by include/numbers; change the crates and run it again.
+use core::fmt;
 
-/// Why a call is refused.
+/// Why a call is refused. It shows as its text. It is no `Error`: that trait is in `core` only since Rust 1.81, and this crate is
+/// `no_std` from 1.63 on.
 #[derive(Clone, Copy, Debug, PartialEq, Eq)]
 #[repr(u8)]
 pub enum Refusal {
@@ -150,5 +152,11 @@ impl Refusal {
             Refusal::ImageLengthOrFilling => "Image not 8 bytes, or filling not zero.",
             Refusal::OutputTooShort => "Lent output shorter than the record.",
         }
+    }
+}
+
+impl fmt::Display for Refusal {
+    fn fmt(&self, f: &mut fmt::Formatter<'_>) -> fmt::Result {
+        f.pad(self.text())
     }
 }

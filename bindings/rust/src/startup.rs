@@ -29,13 +29,13 @@ impl Reading {
 /// What came of a call.
 #[derive(Clone, Copy, Debug, PartialEq, Eq)]
 pub enum Report {
-    /// The step is worked. At 19 the host writes the keys.
+    /// The step is worked: the host writes the fields that changed, and at 19 the keys after them.
     Worked { step: u8, used: u32 },
     /// The reading did not meet the step's wait.
     Waiting { step: u8, used: u32 },
     /// Over: the clocks run as the check promised.
     Running { step: u8, used: u32 },
-    /// Over, by this refusal at this step.
+    /// Over, by this refusal (`WaitFailed`, `FlashModeDiffers` or `ClocksDiffer`) at this step; `step` is 0 with `ClocksDiffer`.
     Failed { refusal: Refusal, step: u8, used: u32 },
 }
 
@@ -63,12 +63,14 @@ impl FlashKey {
     }
 }
 
-/// The chip, as a startup needs it.
+/// The chip, as `Startup::run` needs it: `read` before each call, `write` after it, and after step 19's `write` four times `write_key`.
 pub trait Chip {
-    /// Writes the image's fields to the registers.
+    /// Writes the image's fields to the registers, but never the ready bits and SWS, which only the chip writes; SCKMOD, LOCK and FLOCK in one write.
+    /// What a register holds already may be left out. That is the register, and not the last image: the keys open LOCK and FLOCK, and step 20 sets them.
     fn write(&mut self, image: [u8; IMAGE_SIZE]);
     /// Writes a key to a register of the flash.
     fn write_key(&mut self, key: FlashKey);
+    /// Reads the ready bits, SWS and SCKMOD as they are now.
     fn read(&mut self) -> Reading;
 }
 
@@ -98,7 +100,7 @@ impl Startup {
         self.place
     }
 
-    /// The image that the host writes to the chip.
+    /// The image that the host writes to the chip, but for the ready bits and SWS.
     pub fn image(&self) -> [u8; IMAGE_SIZE] {
         let mut image = [0; IMAGE_SIZE];
         image.copy_from_slice(&self.place[PLACE_IMAGE..PLACE_IMAGE + IMAGE_SIZE]);
@@ -110,7 +112,8 @@ impl Startup {
         u32::from_be_bytes([self.place[at], self.place[at + 1], self.place[at + 2], self.place[at + 3]])
     }
 
-    /// One call: one step's work done or one reading used.
+    /// One call: one step's work done or one reading used. A startup that ends by a refusal is `Ok(Report::Failed { .. })`; `Err` says that no starting
+    /// leads to these bytes, which then stay.
     pub fn step(&mut self, reading: Reading) -> Result<Report, Refusal> {
         result(unsafe { wontabeli_step(self.place.as_mut_ptr(), self.place.len(), reading.number()) })?;
         let (step, used) = (self.place[PLACE_NAMED], self.used());
@@ -125,7 +128,8 @@ impl Startup {
         })
     }
 
-    /// Calls until the startup is over, and gives its last report.
+    /// Calls until the startup is over, and gives its last report. In each turn it reads, calls, writes the image, and at step 19 then the keys: fields
+    /// written after the keys would lock the flash again.
     pub fn run(&mut self, chip: &mut impl Chip) -> Result<Report, Refusal> {
         loop {
             let report = self.step(chip.read())?;
@@ -143,14 +147,14 @@ impl Startup {
     }
 }
 
-/// How many waits a profile's startup has.
+/// How many waits a profile's startup has. The check is not asked.
 pub fn waits_owed(profile: &[u8]) -> Result<u32, Refusal> {
     let mut out = 0;
     result(unsafe { wontabeli_waits_owed(profile.as_ptr(), profile.len(), &mut out) })?;
     Ok(out)
 }
 
-/// Within how many calls a profile's startup is over.
+/// Within how many calls a profile's startup is over. The check is not asked.
 pub fn call_bound(profile: &[u8]) -> Result<u32, Refusal> {
     let mut out = 0;
     result(unsafe { wontabeli_call_bound(profile.as_ptr(), profile.len(), &mut out) })?;

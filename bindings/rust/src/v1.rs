@@ -1,12 +1,15 @@
 //! CH32V1 and CH32L1.
 use crate::calls::{wontabeli_v1_check, wontabeli_v1_decode, wontabeli_v1_init_fields};
-use crate::numbers::{CHECK_WORDS, CLOCKS_WORDS, MORE, V1_CONFIG_SIZE, V1_FIELDS_SIZE};
+use crate::numbers::{CHECK_WORDS, CLOCKS_WORDS, V1_CONFIG_SIZE, V1_FIELDS_SIZE};
 use crate::{hertz, lay_hse, result, Clocks, Hse, Refusal};
 use core::num::NonZeroU32;
 
+pub use crate::usb::Checked;
+
+/// Which of the two parts.
 #[derive(Clone, Copy, Debug, PartialEq, Eq)]
 #[repr(u8)]
-pub enum Chip {
+pub enum Part {
     V1 = 0,
     L1 = 1,
 }
@@ -47,25 +50,25 @@ impl Config {
     }
 }
 
-/// The clocks of a configuration, and twice the USB divisor where there is one.
-pub fn check(chip: Chip, config: &Config) -> Result<(Clocks, Option<u32>), Refusal> {
+/// Checks a configuration.
+pub fn check(part: Part, config: &Config) -> Result<Checked, Refusal> {
     let (b, mut out) = (config.record(), [0; CHECK_WORDS]);
-    result(unsafe { wontabeli_v1_check(chip as u8, b.as_ptr(), b.len(), out.as_mut_ptr(), out.len()) })?;
-    Ok((Clocks::from_words(&out), NonZeroU32::new(out[MORE]).map(NonZeroU32::get)))
+    result(unsafe { wontabeli_v1_check(part as u8, b.as_ptr(), b.len(), out.as_mut_ptr(), out.len()) })?;
+    Ok(Checked::from_words(&out))
 }
 
 /// The clocks that the fields say, with HSE's frequency where there is an HSE.
-pub fn decode(chip: Chip, fields: &Fields, hse: Option<NonZeroU32>) -> Result<Clocks, Refusal> {
+pub fn decode(part: Part, fields: &Fields, hse: Option<NonZeroU32>) -> Result<Clocks, Refusal> {
     let mut out = [0; CLOCKS_WORDS];
-    result(unsafe { wontabeli_v1_decode(chip as u8, fields.as_ptr(), fields.len(), hertz(hse), out.as_mut_ptr(), out.len()) })?;
+    result(unsafe { wontabeli_v1_decode(part as u8, fields.as_ptr(), fields.len(), hertz(hse), out.as_mut_ptr(), out.len()) })?;
     Ok(Clocks::from_words(&out))
 }
 
-/// The fields that starting a configuration leaves, over earlier ones.
-pub fn init_fields(chip: Chip, config: &Config, earlier: &Fields) -> Result<Fields, Refusal> {
+/// The fields that starting a configuration leaves, over earlier ones: what they are at the end, and not a list of writes (SWS is what it then reads).
+pub fn init_fields(part: Part, config: &Config, earlier: &Fields) -> Result<Fields, Refusal> {
     let (b, mut out) = (config.record(), [0; V1_FIELDS_SIZE]);
     let number = unsafe {
-        wontabeli_v1_init_fields(chip as u8, b.as_ptr(), b.len(), earlier.as_ptr(), earlier.len(), out.as_mut_ptr(), out.len())
+        wontabeli_v1_init_fields(part as u8, b.as_ptr(), b.len(), earlier.as_ptr(), earlier.len(), out.as_mut_ptr(), out.len())
     };
     result(number)?;
     Ok(out)

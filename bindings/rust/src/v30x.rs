@@ -1,8 +1,10 @@
 //! CH32V30x.
 use crate::calls::{wontabeli_v30x_check, wontabeli_v30x_decode, wontabeli_v30x_init_fields};
-use crate::numbers::{CHECK_WORDS, CLOCKS_WORDS, MORE, V30X_CONFIG_SIZE, V30X_FIELDS_SIZE};
+use crate::numbers::{CHECK_WORDS, CLOCKS_WORDS, V30X_CONFIG_SIZE, V30X_FIELDS_SIZE};
 use crate::{hertz, lay_hse, result, Clocks, Hse, Refusal};
 use core::num::NonZeroU32;
+
+pub use crate::usb::Checked;
 
 /// What feeds the PLL. PLL2 is refused.
 #[derive(Clone, Copy, Debug, Default, PartialEq, Eq)]
@@ -58,11 +60,11 @@ impl Config {
     }
 }
 
-/// The clocks of a configuration, and twice the USB divisor where there is one.
-pub fn check(config: &Config) -> Result<(Clocks, Option<u32>), Refusal> {
+/// Checks a configuration.
+pub fn check(config: &Config) -> Result<Checked, Refusal> {
     let (b, mut out) = (config.record(), [0; CHECK_WORDS]);
     result(unsafe { wontabeli_v30x_check(b.as_ptr(), b.len(), out.as_mut_ptr(), out.len()) })?;
-    Ok((Clocks::from_words(&out), NonZeroU32::new(out[MORE]).map(NonZeroU32::get)))
+    Ok(Checked::from_words(&out))
 }
 
 /// The clocks that the fields say, with HSE's frequency where there is an HSE.
@@ -72,7 +74,7 @@ pub fn decode(fields: &Fields, hse: Option<NonZeroU32>) -> Result<Clocks, Refusa
     Ok(Clocks::from_words(&out))
 }
 
-/// The fields that starting a configuration leaves, over earlier ones.
+/// The fields that starting a configuration leaves, over earlier ones: what they are at the end, and not a list of writes (SWS is what it then reads).
 pub fn init_fields(config: &Config, earlier: &Fields) -> Result<Fields, Refusal> {
     let (b, mut out) = (config.record(), [0; V30X_FIELDS_SIZE]);
     let number = unsafe {

@@ -72,14 +72,10 @@ fn v1_fields(x: [u8; 33]) -> v1::Fields {
 }
 
 fn checked(kind: u8, answer: Checked) -> [u8; 64] {
-    match answer {
-        Checked::Refused(n) => reply::empty(kind, n),
-        Checked::Accepted { clocks, usb } => reply::byte(
-            reply::clocks(reply::empty(kind, 0), 2, clocks),
-            26,
-            usb,
-        ),
-    }
+    let Checked::Accepted { clocks, usb } = answer else {
+        return reply::empty(kind, pll32::refused(answer));
+    };
+    reply::byte(reply::clocks(reply::empty(kind, 0), 2, clocks), 26, usb)
 }
 
 fn v1_written(kind: u8, answer: v1::Written) -> [u8; 64] {

@@ -74,8 +74,8 @@ last x y = omega arith
 
 -- eight bits are a byte; y is what stands before them
 byte : (x y : ℕ) → x < 256 →
-    (((((((y * 2 + x / 128 % 2) * 2 + x / 64 % 2) * 2 + x / 32 % 2) * 2 + x / 16 % 2) * 2 + x / 8 % 2) * 2 + x / 4 % 2) * 2 + x / 2 % 2) * 2 + x / 1 % 2
-    ≡ y * 256 + x
+    (((((((y * 2 + x / 128 % 2) * 2 + x / 64 % 2) * 2 + x / 32 % 2) * 2 + x / 16 % 2) * 2 +
+    x / 8 % 2) * 2 + x / 4 % 2) * 2 + x / 2 % 2) * 2 + x / 1 % 2 ≡ y * 256 + x
 byte x y h =
     let e0 = first x (y * 2) h in
     let e1 = ap (λ (t : ℕ). t * 2 + x / 64 % 2) e0 ∙ step x 6 (y * 2) in

@@ -43,11 +43,9 @@ pub fn hse_allowed(present: u8, bypass: u8, freq: u32) -> bool
 pub fn seven(checked: Checked) -> Sevenfold
     ensures { λ r. ⌜ sevenfold r ≡ accepted checked ⌝ }
 {
-    match checked {
-        Checked::Refused(n) => Sevenfold::Refused(n),
-        Checked::Accepted { clocks, usb } => {
-            let more = usb as u32;
-            Sevenfold::Are { clocks, more }
-        }
-    }
+    let Checked::Accepted { clocks, usb } = checked else {
+        return Sevenfold::Refused(pll32::refused(checked));
+    };
+    let more = usb as u32;
+    Sevenfold::Are { clocks, more }
 }

@@ -48,7 +48,8 @@ pub record Cutting (ws s was out : List ℕ) (at i : ℕ) : Type 0 where
 pub none-cut : (ws s was : List ℕ) → Cutting ws s was was 0 0
 none-cut ws s was = record { copied = none-yet (cut ws s 0) was; place = refl; near = zero-le }
 
-module _ (ws s was out : List ℕ) (at i : ℕ) (fits : length ws ≤ length was) (n : narrow ws ≡ true) (c : Cutting ws s was out at i) (h : i < length ws) where
+module _ (ws s was out : List ℕ) (at i : ℕ) (fits : length ws ≤ length was) (n : narrow ws ≡ true)
+    (c : Cutting ws s was out at i) (h : i < length ws) where
   fitting : length (cut ws s 0) ≤ length was
   fitting = subst (λ (k : ℕ). k ≤ length was) (sym (length-cut ws s 0)) fits
 

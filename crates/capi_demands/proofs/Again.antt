@@ -93,7 +93,8 @@ module _ (x : Stepped) (p i rest : List ℕ) (a : length p ≡ 10) (b : length i
   pub kept-of : readProfile p ≡ gives (st .config) → readImage i ≡ gives (st .fields) → keptOf ((p ++ (i ++ tailOf x)) ++ rest) ≡ gives st
   unfolding keptOf
   kept-of c f =
-      let e : (p ++ (i ++ tailOf x)) ++ rest ≡ l = append-assoc p (i ++ tailOf x) rest ∙ ap (λ (t : List ℕ). p ++ t) (append-assoc i (tailOf x) rest) in
+      let e : (p ++ (i ++ tailOf x)) ++ rest ≡ l =
+      append-assoc p (i ++ tailOf x) rest ∙ ap (λ (t : List ℕ). p ++ t) (append-assoc i (tailOf x) rest) in
       let d : take 8 (drop 10 l) ≡ i = ap (take 8) (drop-at p (i ++ u) 10 a) ∙ take-at i u 8 b in
       ap keptOf e ∙ rw (take-at p (i ++ u) 10 a, d, c, f) (ap gives standing-again)
 

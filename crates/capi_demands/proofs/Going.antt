@@ -118,7 +118,8 @@ module _ (P : List Entry) (L : ℕ) (some : 0 < L) where
     by-phase : (h : Phase) → s .phase ≡ h → Fine P L s h → Good P L (inPhase P L s r h)
     unfolding callIn
     by-phase Going e a =
-        let small : ltb 8000001 (s .used) ≡ false = le-ltb 8000001 (s .used) (used-le L (a .op) (a .rest) (s .unmet) (s .used) (a .slack) (a .room)) in
+        let most = used-le L (a .op) (a .rest) (s .unmet) (s .used) (a .slack) (a .room) in
+        let small : ltb 8000001 (s .used) ≡ false = le-ltb 8000001 (s .used) most in
         let q : callIn L s r (from (s .step) P) ≡ workedOf L s r (a .rest) (a .op) =
         ap (callIn L s r) (a .here) ∙ ap (λ (b : Bool). cond b (handedBack s) (workedOf L s r (a .rest) (a .op))) small in
         subst (Good P L) (sym q) (works (a .op) (a .rest) (a .here) (a .closed) (a .slack) (a .room))

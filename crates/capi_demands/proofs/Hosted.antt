@@ -6,8 +6,8 @@ use mathlib.Core.List.{List, _++_}
 use native.Mathlib.Omega.{arith}
 use borrow.Author.Tests.{le-ltb, not-false}
 use lib.Dec.{eqb, lit<}
-use lib.ListN.{length, drop, length-append}
-use lib.Seq.{drop-at}
+use lib.ListN.{length, drop, getD, length-append, List·getD-append}
+use lib.Seq.{drop-at, getD-append-add}
 use Rattle.answer.specs.Answer.{Answer, gives, bound, passed}
 use Rattle.layout.specs.Layout.{packed}
 use Rattle.layout.specs.Lent.{written, after}
@@ -23,10 +23,11 @@ use Rattle.steps.specs.Steps.{Entry, steps}
 use Rattle.startup.specs.declared.Reading.{Reading}
 use Rattle.startup.specs.declared.Startup.{Startup}
 use Rattle.startup.specs.declared.Stepped.{Stepped}
-use Rattle.startup.specs.Call.{numberOf, stepOf, waitsOwed, callBound}
+use Rattle.startup.specs.Call.{numberOf, stepOf, waitsOwedOf, callBoundOf}
 use Rattle.demands.specs.Runs.{run}
 use Rattle.demands.specs.Third.{begun}
 use Rattle.demands.specs.Third as third
+use Rattle.demands.proofs.Accepted.{accepted-tells}
 use Rattle.demands.proofs.Machine.{machine}
 use Rattle.demands.proofs.Width.{wide, in-width}
 use Rattle.demands.proofs.Third.{bounds, Sound, same-step, stays-sound, starts, demand3}
@@ -35,7 +36,7 @@ use Rattle.capi_startup.specs.Kept.{keptOf, tailOf, placeOf}
 use Rattle.capi_startup.specs.Calls.{readingOf, startRead, begunWith, startBytes, callOf, stepBytes}
 use Rattle.capi_owed.specs.Owed.{callsRead}
 use Rattle.capi_demands.specs.Place.{Storable}
-use Rattle.capi_demands.specs.Hosted.{Hosts, Shows, readings, Served, Demand3InC, HostsThere}
+use Rattle.capi_demands.specs.Hosted.{Hosts, Shows, Tells, readings, Served, Demand3InC, HostsThere}
 use Rattle.capi_demands.proofs.Again.{kept-again}
 use Rattle.capi_demands.proofs.Stays.{starts-storable, stays-storable}
 use Rattle.capi_demands.proofs.Going.{Inside, Good, good, first-at}
@@ -51,6 +52,60 @@ image-given f h = rw h
 image-width : (f : Fields) (i : List ℕ) → imageBytes f ≡ gives i → inWidth f ≡ true
 unfolding imageBytes
 image-width f i e = not-false (inWidth f) (passed 28 (not (inWidth f)) (gives (packed 8 widths (listOf f))) e .failed)
+
+-- a place is a profile, an image and the tail
+record Parts (y : Stepped) (b : List ℕ) : Type 0 where
+  profile-part : List ℕ
+  image-part : List ℕ
+  ten : length profile-part ≡ 10
+  eight : length image-part ≡ 8
+  whole : profile-part ++ (image-part ++ tailOf y) ≡ b
+
+parts : (y : Stepped) (b : List ℕ) → placeOf y ≡ gives b → Parts y b
+unfolding placeOf
+parts y b e =
+    let st = y .startup in
+    let u = bound (profileBytes (st .config)) _ e in
+    let v = bound (imageBytes (st .fields)) _ (u .after) in
+    let g : gives (u .value ++ (v .value ++ tailOf y)) ≡ gives b = v .after in
+    record {
+      profile-part = u .value;
+      image-part = v .value;
+      ten = profile.inverse .size (st .config) (u .value) (u .gave);
+      eight = image.inverse .size (st .fields) (v .value) (v .gave);
+      whole = cc;
+    }
+
+size : (y : Stepped) (b : List ℕ) → placeOf y ≡ gives b → length b ≡ 32
+unfolding tailOf
+size y b e =
+    let s = parts y b e in
+    let p = s .profile-part in
+    let i = s .image-part in
+    let j = s .ten in
+    let k = s .eight in
+    let n : length (tailOf y) ≡ 14 = refl in
+    ap length (sym (s .whole)) ∙ length-append p (i ++ tailOf y) ∙ ap (λ (z : ℕ). length p + z) (length-append i (tailOf y)) ∙ omega arith
+
+-- a byte of the tail, in the lent bytes
+tail-byte : (y : Stepped) (rest l : List ℕ) → Shows y rest l → (k : ℕ) → 18 + k < 32 → getD l (18 + k) 0 ≡ getD (tailOf y) k 0
+tail-byte y rest l s k h =
+    let b = s .place in
+    let o = parts y b (s .stored) in
+    let p = o .profile-part in
+    let i = o .image-part in
+    let within : 18 + k < length b = rw (size y b (s .stored)) h in
+    let at : 18 + k ≡ length p + (length i + k) = omega (arith, o .ten, o .eight) in
+    ap (λ (z : List ℕ). getD z (18 + k) 0) (s .lent) ∙ List·getD-append b rest 0 (18 + k) within
+    ∙ ap (λ (z : List ℕ). getD z (18 + k) 0) (sym (o .whole))
+    ∙ ap (λ (n : ℕ). getD (p ++ (i ++ tailOf y)) n 0) at
+    ∙ getD-append-add p (i ++ tailOf y) (length i + k) 0 ∙ getD-append-add i (tailOf y) k 0
+
+tells : (y : Stepped) (rest l : List ℕ) → Shows y rest l → Tells y l
+unfolding tailOf
+tells y rest l s =
+    let byte = tail-byte y rest l s in
+    record { phase = byte 9 (lit< tt); went = byte 10 (lit< tt); number = byte 11 (lit< tt); step = byte 12 (lit< tt) }
 
 module _ (c : Config) {x : Clocks × ℕ} (q : checkOf c ≡ gives x) (p : List ℕ) (packs : profileBytes c ≡ gives p) where
   abbrev P : List Entry
@@ -68,21 +123,6 @@ module _ (c : Config) {x : Clocks × ℕ} (q : checkOf c ≡ gives x) (p : List 
       let e : machine P 1000000 s r ≡ stepOf s r = sym (same-step c q s r so) in
       let g : Good P 1000000 (stepOf s r) = subst (Good P 1000000) e (good P 1000000 million s r i) in
       ((subst (λ (t : Stepped). Sound c q (t .startup)) e (stays-sound c q s r so), g .0, stays-storable s r st), g .1)
-
-  -- its place
-  size : (y : Stepped) (b : List ℕ) → placeOf y ≡ gives b → length b ≡ 32
-  unfolding placeOf tailOf
-  size y b e =
-      let st = y .startup in
-      let u = bound (profileBytes (st .config)) _ e in
-      let v = bound (imageBytes (st .fields)) _ (u .after) in
-      let g : gives (u .value ++ (v .value ++ tailOf y)) ≡ gives b = v .after in
-      let o : u .value ++ (v .value ++ tailOf y) ≡ b = cc in
-      let j = profile.inverse .size (st .config) (u .value) (u .gave) in
-      let k = image.inverse .size (st .fields) (v .value) (v .gave) in
-      let n : length (tailOf y) ≡ 14 = refl in
-      ap length (sym o) ∙ length-append (u .value) (v .value ++ tailOf y)
-      ∙ ap (λ (z : ℕ). length (u .value) + z) (length-append (v .value) (tailOf y)) ∙ omega arith
 
   stored-as : (y : Stepped) → Held (y .startup) → (b : List ℕ) × (placeOf y ≡ gives b)
   unfolding placeOf
@@ -143,8 +183,8 @@ module _ (c : Config) {x : Clocks × ℕ} (q : checkOf c ≡ gives x) (p : List 
     start-bytes = rw (e, o, starts c q f w)
 
     call-bound : callsRead p ≡ gives (third.bound c)
-    unfolding callsRead callBound waitsOwed
-    call-bound = rw e
+    unfolding callsRead callBoundOf waitsOwedOf
+    call-bound = rw (e, accepted-tells c q .names)
 
     pub served : (ws : ℕ → ℕ) (r : ℕ) (rs : ℕ → ℕ) (m : ℕ → List ℕ) → Hosts p i l ws r rs m → Served p c (x .0) f l ws r rs m
     served ws r rs m g =
@@ -159,6 +199,7 @@ module _ (c : Config) {x : Clocks × ℕ} (q : checkOf c ≡ gives x) (p : List 
           called = λ n. each-call rest n ws rs m y held s (g .step) .0;
           begins = s;
           steps = λ n. each-call rest n ws rs m y held s (g .step) .1;
+          tells = λ n. tells _ rest (m (suc n)) (each-call rest n ws rs m y held s (g .step) .1);
           keeps = λ n. each-kept rest n ws rs m y held s (g .step);
           asked = call-bound;
           shown = demand3 c x q f w (readings ws) .1;

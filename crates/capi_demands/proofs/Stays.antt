@@ -9,6 +9,7 @@ use borrow.Author.Tests.{ltb-true, ltb-false, leb-false, eqb-true, eq-eqb}
 use lib.Dec.{eqb, ltb, leb, lit<}
 use lib.ListN.{length, take, drop}
 use Rattle.answer.specs.Answer.{Answer, gives, refuses, refuse, _>>_, bound, followed, passed}
+use Rattle.divider.specs.Facts.{neither}
 use Rattle.layout.specs.Bits.{bitsAt}
 use Rattle.layout.proofs.Reading.{bits-lt}
 use Rattle.tree.specs.declared.Clocks.{Clocks}
@@ -31,10 +32,6 @@ use Rattle.capi_startup.specs.Calls.{readingOf, callOf, stepBytes}
 use Rattle.capi_demands.specs.Place.{HeldPhase, Storable, StartsStorable, StaysStorable, CallReadsBack}
 use Rattle.capi_demands.proofs.Lists.{behind-le, skipped-le}
 use Rattle.capi_demands.proofs.Again.{kept-again}
-
-or-right : (a b : Bool) → (a || b) ≡ false → b ≡ false
-or-right true b e = let z : _≡_ {A = ℕ} 0 1 = cc in absurd (omega arith)
-or-right false b e = e
 
 -- a startup of small numbers that is going
 small : (c : Config) (f : Fields) (k m u : ℕ) → k < 256 → m ≤ 1000000 → u ≤ 8000002 → Storable (going c f k m u)
@@ -102,7 +99,7 @@ module _ (s : Startup) (st : Storable s) (r : Reading) where
         let q = from (s .step) P in
         let most = ltb 8000001 (s .used) in
         by-cond (not (onIn q) || most) (handedBack s) (worksIn 1000000 s r q) (λ t. st)
-        (λ t. in-list q refl (ltb-false 8000001 (s .used) (or-right (not (onIn q)) most t)))
+        (λ t. in-list q refl (ltb-false 8000001 (s .used) (neither (not (onIn q)) most t .1)))
 
   by-phase : (a : Answer (Clocks × ℕ)) (h : Phase) → Stored (stepBy a s r h)
   by-phase (gives x) (Over last) = st

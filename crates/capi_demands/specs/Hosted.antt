@@ -3,7 +3,7 @@
 use Prim.Native.Nat.{ℕ, suc, _≤_}
 use mathlib.Core.Path.{_≡_}
 use mathlib.Core.List.{List, _++_}
-use lib.ListN.{length, drop}
+use lib.ListN.{length, drop, getD}
 use Rattle.answer.specs.Answer.{gives}
 use Rattle.layout.specs.Layout.{Bytes}
 use Rattle.tree.specs.declared.Clocks.{Clocks}
@@ -13,11 +13,11 @@ use Rattle.profile.specs.Profile.{readProfile}
 use Rattle.image.specs.declared.Fields.{Fields}
 use Rattle.image.specs.Image.{readImage}
 use Rattle.startup.specs.declared.Stepped.{Stepped}
-use Rattle.startup.specs.Call.{stepOf}
+use Rattle.startup.specs.Call.{numberOf, namedStep, stepOf}
 use Rattle.demands.specs.Runs.{Readings, run}
 use Rattle.demands.specs.Third.{begun, bound, Shown}
 use Rattle.lent.specs.Given.{Given}
-use Rattle.capi_startup.specs.Kept.{keptOf, placeOf}
+use Rattle.capi_startup.specs.Kept.{tagOf, wentOf, keptOf, placeOf}
 use Rattle.capi_startup.specs.Calls.{readingOf, begunWith, startBytes, stepBytes}
 use Rattle.capi_owed.specs.Owed.{callsRead}
 
@@ -33,18 +33,27 @@ pub record Shows (x : Stepped) (rest l : List ℕ) : Type 0 where
   pub stored : placeOf x ≡ gives place
   pub lent : l ≡ place ++ rest
 
+-- What a host reads of them: byte 27 is the phase, 28 how the last call went, 29 the refusal number and 30 the step that it names.
+pub record Tells (x : Stepped) (l : List ℕ) : Type 0 where
+  pub phase : getD l 27 0 ≡ tagOf (x .startup .phase)
+  pub went : getD l 28 0 ≡ wentOf (x .report)
+  pub number : getD l 29 0 ≡ numberOf (x .report)
+  pub step : getD l 30 0 ≡ namedStep (x .report)
+
 abbrev pub readings : (ℕ → ℕ) → Readings
 readings ws = λ n. readingOf (ws n)
 
 -- What the host is served.
-pub record Served (p : List ℕ) (c : Config) (promised : Clocks) (f : Fields) (l : List ℕ) (ws : ℕ → ℕ) (r : ℕ) (rs : ℕ → ℕ) (m : ℕ → List ℕ) : Type 0 where
-  -- Nothing is refused.
+pub record Served (p : List ℕ) (c : Config) (promised : Clocks) (f : Fields) (l : List ℕ) (ws : ℕ → ℕ)
+    (r : ℕ) (rs : ℕ → ℕ) (m : ℕ → List ℕ) : Type 0 where
+  -- Each call returns 0, also the one by which the startup ends: how it ends is in its place.
   pub started : r ≡ 0
   pub called : (n : ℕ) → rs n ≡ 0
   -- After the start the lent bytes are the begun startup's place, after each call the place of what the startup by value comes to with the same
   -- readings, with its report. The bytes behind the place are as they were.
   pub begins : Shows (begunWith (begun c f)) (drop 32 l) (m 0)
   pub steps : (n : ℕ) → Shows (stepOf (run stepOf n (readings ws) (begun c f)) (readings ws n)) (drop 32 l) (m (suc n))
+  pub tells : (n : ℕ) → Tells (stepOf (run stepOf n (readings ws) (begun c f)) (readings ws n)) (m (suc n))
   -- Read back, they are the startup by value;
   pub keeps : (n : ℕ) → keptOf (m n) ≡ gives (run stepOf n (readings ws) (begun c f))
   -- and of the one that they are after as many calls as `wontabeli_call_bound` gives, demand 3 says all that it says.

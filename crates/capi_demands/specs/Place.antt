@@ -47,8 +47,8 @@ StartsStorable = (c : Config) (f : Fields) (s : Startup) → startOf c f ≡ giv
 abbrev pub StaysStorable : Type 0
 StaysStorable = (s : Startup) (r : Reading) → Storable s → Storable (stepOf s r .startup)
 
--- Whatever bytes a host hands in, even such as no starting leads to: where the call is not refused, the place that it leaves holds what the startup by
--- value came to.
+-- Whatever bytes a host hands in, even such as no starting leads to: where the call is not refused, the place that it leaves holds
+-- what the startup by value came to.
 abbrev pub CallReadsBack : Type 0
 CallReadsBack =
     (l b rest : List ℕ) (w : ℕ) (s : Startup) → keptOf l ≡ gives s → stepBytes l w ≡ gives b →

@@ -6,7 +6,7 @@ use Rattle.answer.specs.Answer.{Answer, gives, refuses, _>>=_}
 use Rattle.profile.specs.Profile.{readProfile}
 use Rattle.startup.specs.declared.FlashKey.{FlashKey}
 use Rattle.startup.specs.declared.FlashKey.the-variants.{Keyr, ModeKeyr, NoKey}
-use Rattle.startup.specs.Call.{keyOf, waitsOwed, callBound}
+use Rattle.startup.specs.Call.{keyOf, waitsOwedOf, callBoundOf}
 
 -- a key's register, 0 KEYR or 1 MODEKEYR, and the key; 28 behind the last
 abbrev pub keyWords : FlashKey → Answer (ℕ × ℕ)
@@ -21,9 +21,9 @@ keyRead position = keyWords (keyOf position)
 unfoldable pub waitsRead : List ℕ → Answer ℕ
 waitsRead p = do
   c ← readProfile p
-  gives (waitsOwed c)
+  waitsOwedOf c
 
 unfoldable pub callsRead : List ℕ → Answer ℕ
 callsRead p = do
   c ← readProfile p
-  gives (callBound c)
+  callBoundOf c

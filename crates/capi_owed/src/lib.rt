@@ -43,7 +43,7 @@ fn waits(p: &[u8]) -> Reply
 {
     match profile::read_profile(p) {
         ReadProfile::Refused(n) => Reply::Refused(n),
-        ReadProfile::Profile(config) => Reply::Is(startup::waits_owed(config)),
+        ReadProfile::Profile(config) => startup::waits_owed(config),
     }
 }
 
@@ -60,7 +60,7 @@ fn calls(p: &[u8]) -> Reply
 {
     match profile::read_profile(p) {
         ReadProfile::Refused(n) => Reply::Refused(n),
-        ReadProfile::Profile(config) => Reply::Is(startup::call_bound(config)),
+        ReadProfile::Profile(config) => startup::call_bound(config),
     }
 }
 

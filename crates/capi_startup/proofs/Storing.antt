@@ -27,7 +27,8 @@ written-whole (refuses n) l l′ r q e k =
     let d : done outcome.Done ≡ refuses n = ap done (sym q) ∙ e in
     let z : _≡_ {A = ℕ} 0 1 = cc in absurd (omega arith)
 
-not-written : (m : Answer (List ℕ)) (k : ℕ) (r : Outcome) → r ≡ outcome.Refused k → done r ≡ _>>_ (_>>=_ m (λ b. gives (b ++ []))) (gives tt) → m ≡ refuses k
+not-written : (m : Answer (List ℕ)) (k : ℕ) (r : Outcome) → r ≡ outcome.Refused k →
+    done r ≡ _>>_ (_>>=_ m (λ b. gives (b ++ []))) (gives tt) → m ≡ refuses k
 not-written (gives b) k r q e =
     let d : done (outcome.Refused k) ≡ gives tt = ap done (sym q) ∙ e in
     let z : _≡_ {A = ℕ} 0 1 = cc in absurd (omega arith)
@@ -35,7 +36,8 @@ not-written (refuses n) k r q e =
     let d : done (outcome.Refused k) ≡ refuses n = ap done (sym q) ∙ e in
     let z : n ≡ k = cc in ap refuses z
 
-module _ (x : Stepped) (l p : List ℕ) (r : Outcome) (h : 32 ≤ length l) (w : Wrote 10 (profileBytes (x .startup .config)) (replicate 10 0) p r) where
+module _ (x : Stepped) (l p : List ℕ) (r : Outcome) (h : 32 ≤ length l)
+    (w : Wrote 10 (profileBytes (x .startup .config)) (replicate 10 0) p r) where
   pub no-profile : (k : ℕ) → r ≡ outcome.Refused k → Given 32 (placeOf x) l l k
   unfolding placeOf
   no-profile k q = refused 32 (placeOf x) l k h (rw (not-written (profileBytes (x .startup .config)) k r q (w .answer)))
@@ -48,7 +50,8 @@ module _ (x : Stepped) (l p : List ℕ) (r : Outcome) (h : 32 ≤ length l) (w :
     unfolding placeOf
     no-image k o = refused 32 (placeOf x) l k h (rw (profiled, not-written (imageBytes (x .startup .fields)) k s o (v .answer)))
 
-    pub stored : s ≡ outcome.Done → (t xs l′ : List ℕ) (n : ℕ) → t ≡ tailOf x → xs ≡ p ++ (i ++ t) → Given (length xs) (gives xs) l l′ n → Given 32 (placeOf x) l l′ n
+    pub stored : s ≡ outcome.Done → (t xs l′ : List ℕ) (n : ℕ) → t ≡ tailOf x → xs ≡ p ++ (i ++ t) →
+        Given (length xs) (gives xs) l l′ n → Given 32 (placeOf x) l l′ n
     unfolding placeOf tailOf
     stored o t xs l′ n e f g =
         let imaged : imageBytes (x .startup .fields) ≡ gives i =

@@ -30,6 +30,7 @@ use startup::Startup;
 use startup::Stepped;
 use v4x7::Config;
 
+// A phase by its byte: 0 going, 1 running, 21 to 23 how it failed. No starting leads to any other.
 fn phase(tag: u8, step: u8, used: u32) -> Phase
     ensures { λ r. ⌜ r ≡ phaseOf tag step used ⌝ }
 {
@@ -52,6 +53,7 @@ fn phase(tag: u8, step: u8, used: u32) -> Phase
     Phase::Over(Report::Refused(answer::CODE_NOT_ALLOWED))
 }
 
+// The byte of an end. Worked and waiting end nothing.
 fn last_tag(last: Report) -> u8
     ensures { λ r. ⌜ r ≡ lastTag last ⌝ }
 {
@@ -68,6 +70,7 @@ fn last_tag(last: Report) -> u8
     }
 }
 
+// A phase's byte.
 fn tag(phase: Phase) -> u8
     ensures { λ r. ⌜ r ≡ tagOf phase ⌝ }
 {
@@ -77,6 +80,7 @@ fn tag(phase: Phase) -> u8
     }
 }
 
+// What came of a call, in one byte.
 fn went(report: Report) -> u8
     ensures { λ r. ⌜ r ≡ wentOf report ⌝ }
 {
@@ -93,6 +97,7 @@ fn went(report: Report) -> u8
     }
 }
 
+// The refusal number of a report, or 0.
 pub fn number(report: Report) -> u8
     ensures { λ r. ⌜ r ≡ numberOf report ⌝ }
 {
@@ -109,6 +114,7 @@ pub fn number(report: Report) -> u8
     }
 }
 
+// The step that a report names, or 0.
 fn named(report: Report) -> u8
     ensures { λ r. ⌜ r ≡ namedStep report ⌝ }
 {
@@ -125,6 +131,7 @@ fn named(report: Report) -> u8
     }
 }
 
+// The startup of a place whose profile and image are read.
 fn standing(config: Config, fields: Fields, place: &[u8]) -> Startup
     ensures { λ r. ⌜ r ≡ standingOf config fields (now (place .entry)) ⌝ }
 {
@@ -154,6 +161,7 @@ pub fn kept(place: &[u8]) -> Started
     }
 }
 
+// A place: a profile, an image, and what stands after them.
 fn join(p: [u8; 10], i: [u8; 8], t: [u8; 14]) -> [u8; 32]
     ensures { λ r. ⌜ r ≡ p ++ (i ++ t) ⌝ }
 {
@@ -193,6 +201,7 @@ fn join(p: [u8; 10], i: [u8; 8], t: [u8; 14]) -> [u8; 32]
     ]
 }
 
+// What stands after profile and image: step, counts, phase, and what came of the last call.
 fn tail(x: Stepped) -> [u8; 14]
     ensures { λ r. ⌜ r ≡ tailOf x ⌝ }
 {

@@ -21,7 +21,7 @@ use startup::Stepped;
 
 // A place's bytes. Its first ten are the profile.
 pub const PLACE_SIZE: usize = 32;
-// The image, eight bytes: after a call the host writes its fields to the chip.
+// The image, eight bytes: after a call the host writes its fields to the chip, but for the ready bits and SWS.
 pub const PLACE_IMAGE: usize = 10;
 // The step whose turn it is.
 pub const PLACE_STEP: usize = 18;

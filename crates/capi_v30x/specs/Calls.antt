@@ -43,8 +43,9 @@ pllOf present pre mul = cond present (pll.Present pre mul) pll.Absent
 abbrev pub hsPllOf : Bool → ℕ → HsPll
 hsPllOf present pre = cond present (hspll.Present pre) hspll.Absent
 
--- A configuration of 18 bytes: 0 HSE present, 1 bypass, 2 to 5 its frequency, 6 the system clock, 7 the PLL's source, 8 PLL present, 9 its predivider's
--- code, 10 its multiplier's, 11 PLL2 or PLL3 asked for, 12 AHB, 13 APB1, 14 APB2, 15 USBHS from HSE, 16 USBHS present, 17 its prescaler's code
+-- A configuration of 18 bytes: 0 HSE present, 1 bypass, 2 to 5 its frequency, 6 the system clock, 7 the PLL's source, 8 PLL present,
+-- 9 its predivider's code, 10 its multiplier's, 11 PLL2 or PLL3 asked for, 12 AHB, 13 APB1, 14 APB2, 15 USBHS from HSE, 16 USBHS present,
+-- 17 its prescaler's code
 unfoldable pub configOf : List ℕ → Config
 configOf l = record {
   hse = hseOf (yes (at l 0)) (yes (at l 1)) (frequencyOf l);

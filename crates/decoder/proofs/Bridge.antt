@@ -39,7 +39,8 @@ unfolding sysPllOf
 ignores source main e = simp e
 
 -- and no other source gives anything
-no-source : (source main : ℕ) {P : Type 0} {hz : ℕ} → (eqb source 0 || eqb source 2) ≡ false → (eqb source 1 || eqb source 3) ≡ false → eqb source 6 ≡ false → sysPllOf source main ≡ gives hz → P
+no-source : (source main : ℕ) {P : Type 0} {hz : ℕ} → (eqb source 0 || eqb source 2) ≡ false →
+    (eqb source 1 || eqb source 3) ≡ false → eqb source 6 ≡ false → sysPllOf source main ≡ gives hz → P
 unfolding sysPllOf
 no-source source main {P} {hz} even odd six q =
     let n = neither (eqb source 0) (eqb source 2) even in
@@ -48,7 +49,8 @@ no-source source main {P} {hz} even odd six q =
     none (passed 28 (leb 8 source) (refuses 19) left .after)
 
 -- the decoder sees the reference that the check saw
-reference : (h : Hse) (eth : Bool) (s : ℕ) {hz : ℕ} → usedOf (frequencyOf h) ≡ neededOf h → ethOf h eth ≡ gives tt → leb s 2 ≡ true → referenceOf h eth s ≡ gives hz → usbHsReferenceOf s (frequencyOf h) ≡ gives hz
+reference : (h : Hse) (eth : Bool) (s : ℕ) {hz : ℕ} → usedOf (frequencyOf h) ≡ neededOf h → ethOf h eth ≡ gives tt →
+    leb s 2 ≡ true → referenceOf h eth s ≡ gives hz → usbHsReferenceOf s (frequencyOf h) ≡ gives hz
 unfolding usbHsReferenceOf referenceOf ethOf
 reference h eth s {hz} same runs named q =
     by (eqb s 0)
@@ -66,7 +68,10 @@ reference h eth s {hz} same runs named q =
     (λ l. absurd (omega (arith, leb-true s 2 named, eqb-false s 0 e, eqb-false s 1 k, eqb-false s 2 l)))))
 
 -- the decoder finds the USBHS PLL running where it is configured
-usbhs : (c : Config) (f : Fields) (p : HsPll) → usedOf (frequencyOf (c .hse)) ≡ neededOf (c .hse) → ethOf (c .hse) (c .ethpll) ≡ gives tt → usbHsOf (c .hse) (c .ethpll) p ≡ gives tt → namedHsPll p ≡ true → HsPllLaid c p f → noHsPll p ≡ false → usbHsPllOf (f .cfgr2 .usbhspllsrc) (f .cfgr2 .usbhspllclk) (frequencyOf (c .hse)) ≡ gives tt
+usbhs : (c : Config) (f : Fields) (p : HsPll) → usedOf (frequencyOf (c .hse)) ≡ neededOf (c .hse) →
+    ethOf (c .hse) (c .ethpll) ≡ gives tt → usbHsOf (c .hse) (c .ethpll) p ≡ gives tt →
+    namedHsPll p ≡ true → HsPllLaid c p f → noHsPll p ≡ false →
+    usbHsPllOf (f .cfgr2 .usbhspllsrc) (f .cfgr2 .usbhspllclk) (frequencyOf (c .hse)) ≡ gives tt
 unfolding usbHsPllOf usbHsOf
 usbhs c f hspll.Absent same eth q named laid there = never there
 usbhs c f (hspll.From s) same eth q named laid there =
@@ -76,19 +81,21 @@ usbhs c f (hspll.From s) same eth q named laid there =
     simp (laid .0, seen, code, eq-eqb (f .cfgr2 .usbhspllclk) (f .cfgr2 .usbhspllclk) refl)
 
 -- the main PLL, where it is configured, decodes to what the check made of it
-main-pll : (h : Hse) (source : ℕ) (p : Pll) (f : Fields) {main : ℕ} → usedOf (frequencyOf h) ≡ neededOf h → mainOf h source p ≡ gives main → PllLaid p source f → noPll p ≡ false → mainPllOf (usedOf (frequencyOf h)) (f .cfgr0 .pllsrc) (f .cfgr0 .pllmul) ≡ gives main
+main-pll : (h : Hse) (source : ℕ) (p : Pll) (f : Fields) {main : ℕ} → usedOf (frequencyOf h) ≡ neededOf h →
+    mainOf h source p ≡ gives main → PllLaid p source f → noPll p ≡ false →
+    mainPllOf (usedOf (frequencyOf h)) (f .cfgr0 .pllsrc) (f .cfgr0 .pllmul) ≡ gives main
 unfolding mainOf
 main-pll h source pll.Absent f same q laid there = never there
 main-pll h source (pll.Mul m) f same q laid there = rw (same, laid .0, laid .1) q
 
 -- what the check's sources tell, of the parts that may feed SYSCLK
-record Sourced (c : Config) (main : ℕ) : Type 0 where
-  same : usedOf (frequencyOf (c .hse)) ≡ neededOf (c .hse)
-  main-gave : mainOf (c .hse) (c .«pll_src») (c .pll) ≡ gives main
-  eth-gave : ethOf (c .hse) (c .ethpll) ≡ gives tt
-  usbhs-gave : usbHsOf (c .hse) (c .ethpll) (c .hspll) ≡ gives tt
+pub record Sourced (c : Config) (main : ℕ) : Type 0 where
+  pub same : usedOf (frequencyOf (c .hse)) ≡ neededOf (c .hse)
+  pub main-gave : mainOf (c .hse) (c .«pll_src») (c .pll) ≡ gives main
+  pub eth-gave : ethOf (c .hse) (c .ethpll) ≡ gives tt
+  pub usbhs-gave : usbHsOf (c .hse) (c .ethpll) (c .hspll) ≡ gives tt
 
-sourced : (c : Config) {main : ℕ} → sourcesOf c ≡ gives main → Sourced c main
+pub sourced : (c : Config) {main : ℕ} → sourcesOf c ≡ gives main → Sourced c main
 unfolding sourcesOf
 sourced c {main} q =
     let last : ℕ → Answer ℕ = λ hz. gives hz in
@@ -104,7 +111,9 @@ sourced c {main} q =
     record { same = used (c .hse) (b .gave); main-gave = d .gave ∙ ap gives is; eth-gave = e .gave; usbhs-gave = g .gave }
 
 -- what SYSPLL takes in: a PLL that the check found configured, and the decoder finds running
-input : (c : Config) (f : Fields) {main hz : ℕ} → Laid c f → Sourced c main → namedHsPll (c .hspll) ≡ true → inputOf main (c .pll) (c .hspll) (c .ethpll) (c .«syspll_src») ≡ gives hz → selectedOf (f .cfgr2) (f .cfgr0 .pllsrc) (f .cfgr0 .pllmul) (frequencyOf (c .hse)) ≡ gives hz
+input : (c : Config) (f : Fields) {main hz : ℕ} → Laid c f → Sourced c main → namedHsPll (c .hspll) ≡ true →
+    inputOf main (c .pll) (c .hspll) (c .ethpll) (c .«syspll_src») ≡ gives hz →
+    selectedOf (f .cfgr2) (f .cfgr0 .pllsrc) (f .cfgr0 .pllmul) (frequencyOf (c .hse)) ≡ gives hz
 unfolding inputOf selectedOf ethOf
 input c f {main} {hz} laid s named q =
     let source : ℕ = c .«syspll_src» in
@@ -135,7 +144,8 @@ input c f {main} {hz} laid s named q =
     (λ k. no-source source main e k six (eleven .after))))
 
 -- SYSCLK
-system : (c : Config) (f : Fields) {main sys : ℕ} → Laid c f → Sourced c main → Named c → sysclkOf main c ≡ gives sys → inUseOf f (frequencyOf (c .hse)) ≡ gives sys
+system : (c : Config) (f : Fields) {main sys : ℕ} → Laid c f → Sourced c main → Named c → sysclkOf main c ≡ gives sys →
+    inUseOf f (frequencyOf (c .hse)) ≡ gives sys
 unfolding sysclkOf inUseOf
 system c f {main} {sys} laid s named q =
     by (eqb (c .sys) 0)
@@ -144,13 +154,24 @@ system c f {main} {sys} laid s named q =
     (λ k. simp (laid .sws, e, k, s .same) (simp (e, k) at q))
     (λ k. by (eqb (c .sys) 2)
     (λ l.
-    let b = bound (inputOf main (c .pll) (c .hspll) (c .ethpll) (c .«syspll_src»)) (λ hz. gives (hz / (c .«syspll_pre» + 1))) (simp (e, k) at q) in
+    let fed = inputOf main (c .pll) (c .hspll) (c .ethpll) (c .«syspll_src») in
+    let b = bound fed (λ hz. gives (hz / (c .«syspll_pre» + 1))) (simp (e, k) at q) in
     simp (laid .sws, e, k, l, input c f laid s (named .hspll) (b .gave), laid .sysplldiv) (b .after))
     (λ l. absurd (omega (arith, named .sys, eqb-false (c .sys) 0 e, eqb-false (c .sys) 1 k, eqb-false (c .sys) 2 l)))))
 
-pub laid-decodes : (c : Config) (f : Fields) {x : Clocks × ℕ} → checkOf c ≡ gives x → Laid c f → decodeOf f (frequencyOf (c .hse)) ≡ gives (x .0)
-unfolding checkOf decodeOf
-laid-decodes c f {x} q laid =
+-- what an accepted check tells, step by step
+pub record Checked (c : Config) (x : Clocks × ℕ) : Type 0 where
+  pub named : namedOf c ≡ true
+  pub main : ℕ
+  pub sources : sourcesOf c ≡ gives main
+  pub sys : ℕ
+  pub sysclk : sysclkOf main c ≡ gives sys
+  pub buses : busesOf sys (c .«ahb_pre») (c .«apb1_pre») (c .«apb2_pre») ≡ gives (x .0)
+  pub adc : adcOf sys c ≡ gives (x .1)
+
+pub checked : (c : Config) {x : Clocks × ℕ} → checkOf c ≡ gives x → Checked c x
+unfolding checkOf
+checked c {x} q =
     let ahb = c .«ahb_pre» in
     let apb1 = c .«apb1_pre» in
     let apb2 = c .«apb2_pre» in
@@ -163,7 +184,19 @@ laid-decodes c f {x} q laid =
     let buses = bound (busesOf (sys .value) ahb apb1 apb2) (sampled (sys .value)) (sys .after) in
     let adc = bound (adcOf (sys .value) c) (λ hz. gives (buses .value, hz)) (buses .after) in
     let pair : (buses .value, adc .value) ≡ x = cc (adc .after) in
-    let is : buses .value ≡ x .0 = ap (λ (y : Clocks × ℕ). y .0) pair in
-    let named = named-given c (not-false (namedOf c) (names .failed)) in
-    let runs = system c f laid (sourced c (sources .gave)) named (sys .gave) in
-    simp (laid .width, runs, laid .hpre, laid .ppre1, laid .ppre2) (buses .gave ∙ ap gives is)
+    record {
+      named = not-false (namedOf c) (names .failed);
+      main = sources .value;
+      sources = sources .gave;
+      sys = sys .value;
+      sysclk = sys .gave;
+      buses = buses .gave ∙ ap (λ (y : Clocks × ℕ). gives (y .0)) pair;
+      adc = adc .gave ∙ ap (λ (y : Clocks × ℕ). gives (y .1)) pair;
+    }
+
+pub laid-decodes : (c : Config) (f : Fields) {x : Clocks × ℕ} → checkOf c ≡ gives x → Laid c f → decodeOf f (frequencyOf (c .hse)) ≡ gives (x .0)
+unfolding decodeOf
+laid-decodes c f q laid =
+    let k = checked c q in
+    let runs = system c f laid (sourced c (k .sources)) (named-given c (k .named)) (k .sysclk) in
+    simp (laid .width, runs, laid .hpre, laid .ppre1, laid .ppre2) (k .buses)

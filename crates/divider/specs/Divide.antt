@@ -54,3 +54,10 @@ unfoldable pub byApbOf : ℕ → ℕ → Answer ℕ
 byApbOf hz c = do
   d ← apbOf c
   gives (hz / d)
+
+-- the row of a family in the table of shifts
+abbrev pub rowOf : Family → ℕ
+rowOf V4x7 = 0
+rowOf V1 = 1
+rowOf V30x = 2
+rowOf H4 = 3

@@ -1,6 +1,6 @@
 -- Laws of the divisors, shown once over family and code. Callers use them in place of the tables.
 -- Assumes nothing.
-use mathlib.Core.Path.{_≡_, subst}
+use mathlib.Core.Path.{_≡_, refl, subst}
 use mathlib.Core.Bool.{Bool, false}
 use mathlib.Core.List.{List, [], _∷_}
 use Prim.Native.Nat.{ℕ, _<_, _≤_, _*_, _/_, _%_, _^_}
@@ -65,6 +65,10 @@ unfolding apbOf
 apb-given c q = given (leb 8 c) (λ e. apb-between c (leb-false 8 c e)) q
 
 -- a frequency divided is its quotient by the code's divisor
+pub by-apb-is : (hz c : ℕ) → byApbOf hz c ≡ (_>>=_ (apbOf c) (λ d. gives (hz / d)))
+unfolding byApbOf
+by-apb-is hz c = refl
+
 by-apb-given : (hz c : ℕ) {d q : ℕ} → apbOf c ≡ gives d → byApbOf hz c ≡ gives q → hz / d ≡ q
 unfolding byApbOf
 by-apb-given hz c {d} {q} given quotient =

@@ -2,7 +2,7 @@
 ghost use mathlib.Core.Path.{_≡_};
 ghost use Prim.Native.Nat.{_+_, _/_, _<_, _≤_};
 ghost use Rattle.answer.specs.Said.{replied};
-ghost use Rattle.divider.specs.Divide.{ahbDivisor, apbDivisor, fpreDivisor, ahbOf, apbOf, byAhbOf, byApbOf};
+ghost use Rattle.divider.specs.Divide.{rowOf, ahbDivisor, apbDivisor, fpreDivisor, ahbOf, apbOf, byAhbOf, byApbOf};
 ghost use Rattle.divider.specs.Laws.{ShiftFor};
 use answer::Reply;
 
@@ -23,17 +23,23 @@ const AHB_SHIFTS: [[u8; 16]; 4] = [
 
 const FPRE_DIVISORS: [u32; 4] = [1, 2, 4, 4];
 
-// Each row is named where it is read: a row that is looked up makes the compiler copy the whole table first.
+fn row_of(family: Family) -> usize
+    ensures { λ r. ⌜ (r ≡ rowOf family) × (r < 4) ⌝ }
+{
+    match family {
+        Family::V4x7 => 0,
+        Family::V1 => 1,
+        Family::V30x => 2,
+        Family::H4 => 3,
+    }
+}
+
 fn ahb_shift(family: Family, code: usize) -> u8
     requires { ⌜ code < 16 ⌝ }
     ensures { λ r. ⌜ ShiftFor (ahbDivisor family code) r ⌝ }
 {
-    match family {
-        Family::V4x7 => AHB_SHIFTS[0][code],
-        Family::V1 => AHB_SHIFTS[1][code],
-        Family::V30x => AHB_SHIFTS[2][code],
-        Family::H4 => AHB_SHIFTS[3][code],
-    }
+    let row = row_of(family);
+    AHB_SHIFTS[row][code]
 }
 
 fn apb_shift(code: u8) -> u8
@@ -64,13 +70,13 @@ pub fn apb(code: u8) -> Reply
 }
 
 // The divisor of H4's FPRE: the low two bits of the code alone.
-pub fn fpre(code: u8) -> u32
+fn fpre(code: u8) -> u32
     ensures { λ r. ⌜ r ≡ fpreDivisor code ⌝ }
 {
     FPRE_DIVISORS[(code % 4) as usize]
 }
 
-// The one place where a frequency is divided. Every divisor here is a code's, so none is 0.
+// A frequency by a divisor of this crate, none of which is 0.
 fn divided(hz: u32, divisor: u32) -> u32
     requires { ⌜ 1 ≤ divisor ⌝ }
     ensures { λ r. ⌜ r ≡ hz / divisor ⌝ }

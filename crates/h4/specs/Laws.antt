@@ -9,6 +9,7 @@ use lib.ListN.{getD}
 use Rattle.answer.specs.Answer.{Answer, gives, refuses, _>>=_}
 use Rattle.divider.specs.declared.Family.the-variants.{H4}
 use Rattle.divider.specs.Divide.{apbOf, byApbOf, byAhbOf, ahbOf, ahbDivisor, ahbDivisors, apbDivisor}
+use Rattle.divider.specs.Laws.{by-apb-is}
 use Rattle.divider.specs.Table.{at}
 use Rattle.tree.specs.Tree.{busOf, timerClock, belowOf}
 use Rattle.h4.specs.H4.{doubles, pclkOf, prescaledOf}
@@ -55,10 +56,11 @@ timer hclk (refuses n) = refl
 
 -- a bus of the record is that of `pclkOf`: timers always PCLK
 pub bus-is : (hclk c : ℕ) → busOf H4 hclk c ≡ pclkOf hclk c
-unfolding busOf pclkOf byApbOf
-bus-is hclk c = timer hclk (apbOf c)
+unfolding busOf pclkOf
+bus-is hclk c = rw (by-apb-is hclk c) (timer hclk (apbOf c))
 
--- 400 MHz with four different codes: HPRE 8 by 2 is the AHB clock, FPRE 2 by 4 HCLK, PPRE1 4 by 2 and PPRE2 5 by 4 the buses, their timers as they are
+-- 400 MHz with four different codes: HPRE 8 by 2 is the AHB clock, FPRE 2 by 4 HCLK, PPRE1 4 by 2 and PPRE2 5 by 4 the buses,
+-- their timers as they are
 pub worked : prescaledOf 400000000 (record { hpre = 8; fpre = 2; ppre1 = 4; ppre2 = 5 }) ≡
     gives (
       200000000,

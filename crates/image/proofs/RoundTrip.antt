@@ -34,7 +34,8 @@ list-of v h =
     let z : v % 32 ≡ 0 = ap (λ (n : ℕ). n % 32) (sym (div-one v)) ∙ eqb-true (v / 1 % 32) 0 h in
     simp (bit-of-flag, div-one, z)
 
-back : (v : ℕ) → zeroFilled (unpack widths v) ≡ true → (listOf (fieldsOf (unpack widths v)) ≡ unpack widths v) × (inWidth (fieldsOf (unpack widths v)) ≡ true)
+back : (v : ℕ) → zeroFilled (unpack widths v) ≡ true
+    → (listOf (fieldsOf (unpack widths v)) ≡ unpack widths v) × (inWidth (fieldsOf (unpack widths v)) ≡ true)
 back v h =
     let e = list-of v h in
     (e, in-width (fieldsOf (unpack widths v)) ∙ ap (fitting widths) e ∙ fitting-unpack widths v)
@@ -47,6 +48,7 @@ inverse = layout.inverse 8 widths refl zeroFilled fieldsOf inWidth listOf of-lis
 pub read-after-write : (f : Fields) (l l′ : List ℕ) → Wrote 8 (imageBytes f) l l′ Done → readImage (take 8 l′) ≡ gives f
 read-after-write = layout.read-after-write inverse
 
-pub write-after-read : (s : List ℕ) (f : Fields) (l l′ : List ℕ) (o : Outcome) → Bytes s → readImage s ≡ gives f → 8 ≤ length l → Wrote 8 (imageBytes f) l l′ o
+pub write-after-read : (s : List ℕ) (f : Fields) (l l′ : List ℕ) (o : Outcome)
+    → Bytes s → readImage s ≡ gives f → 8 ≤ length l → Wrote 8 (imageBytes f) l l′ o
     → (o ≡ Done) × (l′ ≡ s ++ drop 8 l)
 write-after-read = layout.write-after-read inverse

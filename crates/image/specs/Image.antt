@@ -98,7 +98,8 @@ unfoldable pub listOf : Fields → List ℕ
 listOf f =
     bit (f .ctlr .hsion) ∷ bit (f .ctlr .hsebyp) ∷ bit (f .ctlr .hseon) ∷ bit (f .ctlr .csson) ∷ bit (f .ctlr .pllon)
     ∷ bit (f .ctlr .«usbhs_pllon») ∷ bit (f .ctlr .«eth_pllon»)
-    ∷ bit (f .seen .hsirdy) ∷ bit (f .seen .hserdy) ∷ bit (f .seen .pllrdy) ∷ bit (f .seen .«usbhs_pllrdy») ∷ bit (f .seen .«eth_pllrdy») ∷ f .seen .sws
+    ∷ bit (f .seen .hsirdy) ∷ bit (f .seen .hserdy) ∷ bit (f .seen .pllrdy) ∷ bit (f .seen .«usbhs_pllrdy»)
+    ∷ bit (f .seen .«eth_pllrdy») ∷ f .seen .sws
     ∷ f .cfgr0 .sw ∷ bit (f .cfgr0 .pllsrc) ∷ f .cfgr0 .pllmul ∷ f .cfgr0 .hpre ∷ f .cfgr0 .ppre1 ∷ f .cfgr0 .ppre2 ∷ f .cfgr0 .adcpre
     ∷ bit (f .cfgr0 .adcsrc) ∷ f .cfgr0 .«adc_duty»
     ∷ f .cfgr2 .usbhspllsrc ∷ f .cfgr2 .usbhspllclk ∷ f .cfgr2 .syspllsrc ∷ f .cfgr2 .sysplldiv ∷ bit (f .cfgr2 .«syspll_gate»)

@@ -145,9 +145,9 @@ module _ (ws xs : List ℕ) (i : ℕ) (h : i < length ws) (k : i < length xs) wh
   shift-at v =
       let w = getD ws i 0 in
       let x = getD xs i 0 in
-      let t = 2 ^ total (drop (suc i) ws) in
-      let a : (v * 2 ^ w + x) * t ≡ v * 2 ^ w * t + x * t = add-mul (v * 2 ^ w) x t in
-      let b : v * 2 ^ (w + total (drop (suc i) ws)) ≡ v * 2 ^ w * t = ap (λ (n : ℕ). v * n) (pow-add 2 w (total (drop (suc i) ws))) ∙ sym (mul-assoc v (2 ^ w) t) in
+      let n = total (drop (suc i) ws) in
+      let a : (v * 2 ^ w + x) * 2 ^ n ≡ v * 2 ^ w * 2 ^ n + x * 2 ^ n = add-mul (v * 2 ^ w) x (2 ^ n) in
+      let b : v * 2 ^ (w + n) ≡ v * 2 ^ w * 2 ^ n = ap (λ (m : ℕ). v * m) (pow-add 2 w n) ∙ sym (mul-assoc v (2 ^ w) (2 ^ n)) in
       rw (add-one, drop-cons ws i 0 h, drop-cons xs i 0 k) (omega (arith, a, b))
 
 pub storable-fitting : (ws xs : List ℕ) → storable ws xs ≡ true → fitting ws xs ≡ true

@@ -51,10 +51,12 @@ bit-number (x ∷ s) b zero q r l h =
 bit-number (x ∷ s) b (suc j) q r l h =
     let t = total (bytes (length s)) in
     let o = 8 * j + q in
-    let i : getD s j 0 / 2 ^ (7 - q) % 2 ≡ num s / 2 ^ r % 2 = bit-number s (and-right (ltb x 256) (fitting (bytes (length s)) s) b) j q r l (omega arith) in
+    let b′ : Bytes s = and-right (ltb x 256) (fitting (bytes (length s)) s) b in
+    let i : getD s j 0 / 2 ^ (7 - q) % 2 ≡ num s / 2 ^ r % 2 = bit-number s b′ j q r l (omega arith) in
     let e : t ≡ o + (1 + r) = omega (arith, total-bytes (length s)) in
     let p : x * 2 ^ t ≡ x * 2 ^ o * 2 * 2 ^ r =
-    ap (λ (n : ℕ). x * 2 ^ n) e ∙ ap (λ (n : ℕ). x * n) (pow-add 2 o (1 + r) ∙ ap (λ (n : ℕ). 2 ^ o * n) (pow-add 2 1 r)) ∙ sym (mul-assoc x (2 ^ o) (2 * 2 ^ r)) ∙ sym (mul-assoc (x * 2 ^ o) 2 (2 ^ r)) in
+    ap (λ (n : ℕ). x * 2 ^ n) e ∙ ap (λ (n : ℕ). x * n) (pow-add 2 o (1 + r) ∙ ap (λ (n : ℕ). 2 ^ o * n) (pow-add 2 1 r))
+    ∙ sym (mul-assoc x (2 ^ o) (2 * 2 ^ r)) ∙ sym (mul-assoc (x * 2 ^ o) 2 (2 ^ r)) in
     let d : (x * 2 ^ t + num s) / 2 ^ r ≡ x * 2 ^ o * 2 + num s / 2 ^ r =
     ap (λ (n : ℕ). (n + num s) / 2 ^ r) p ∙ mul-add-div-right (pow-pos r) (x * 2 ^ o * 2) (num s) in
     i ∙ sym (ap (λ (n : ℕ). n % 2) d ∙ mul-add-mod-self-right (x * 2 ^ o) 2 (num s / 2 ^ r))
@@ -94,7 +96,8 @@ module _ (ws : List ℕ) (n : ℕ) (whole : total ws ≡ 8 * n) where
   pub cut-packed : (xs : List ℕ) → fitting ws xs ≡ true → cut ws (packed n ws xs) 0 ≡ xs
   cut-packed xs f =
       let b : pack ws xs < 2 ^ total (bytes n) = rw same-total at (pack-lt ws xs f) in
-      cut-unpack (packed n ws xs) (packed-bytes xs) (length-packed xs) ∙ ap (unpack ws) (num-unpack n (pack ws xs) ∙ mod-eq-of-lt b) ∙ unpack-pack ws xs f
+      cut-unpack (packed n ws xs) (packed-bytes xs) (length-packed xs)
+      ∙ ap (unpack ws) (num-unpack n (pack ws xs) ∙ mod-eq-of-lt b) ∙ unpack-pack ws xs f
 
   -- writing the fields after reading them
   pub packed-unpack : (s : List ℕ) → Bytes s → length s ≡ n → packed n ws (unpack ws (num s)) ≡ s

@@ -38,7 +38,9 @@ pub passed : {A : Type 0} (n : ℕ) (b : Bool) (m : Answer A) (a : A) → _>>_ (
 passed n true m a e = (refl, e)
 passed n false m a e = let z : _≡_ {A = ℕ} 0 1 = cc in absurd (omega arith)
 
-module _ {A : Type 0} (n : ℕ) (ws : List ℕ) (whole : total ws ≡ 8 * n) (readable : List ℕ → Bool) (of : List ℕ → A) (writable : A → Bool) (fields : A → List ℕ)
+module _ {A : Type 0} (n : ℕ) (ws : List ℕ) (whole : total ws ≡ 8 * n)
+    (readable : List ℕ → Bool) (of : List ℕ → A)
+    (writable : A → Bool) (fields : A → List ℕ)
     -- the fields of a record are its own, and what is writable fits and is readable
     (of-fields : (a : A) → of (fields a) ≡ a)
     (fit : (a : A) → writable a ≡ true → (fitting ws (fields a) ≡ true) × (readable (fields a) ≡ true))

@@ -1,7 +1,7 @@
 -- A copy under way: the first i of xs are in `out`, and its own from there on. Assumes nothing.
 use mathlib.Core.List.{List, [], _∷_, _++_}
 use mathlib.Core.Path.{_≡_, refl, sym, ap, _∙_, subst}
-use Prim.Native.Nat.{ℕ, zero, suc, _+_, _-_, _≤_, _<_, zero-le}
+use Prim.Native.Nat.{ℕ, zero, suc, _+_, _≤_, _<_, zero-le}
 use native.Mathlib.Nat.{le-trans, le-antisymm, le-of-suc-le-suc, not-suc-le-zero}
 use native.Mathlib.Numerals.{add-one, add-one-le}
 use lib.ListN.{length, take, drop, getD, set, length-set}
@@ -17,7 +17,8 @@ pub none-yet : (xs was : List ℕ) → Copied xs was was 0
 none-yet xs was = record { within = zero-le; lent = refl; same-length = refl }
 
 -- a turn's store takes the copy of i of them to the copy of one more
-store : (xs out : List ℕ) (i : ℕ) → i < length xs → i < length out → set (take i xs ++ drop i out) i (getD xs i 0) ≡ take (suc i) xs ++ drop (suc i) out
+store : (xs out : List ℕ) (i : ℕ) → i < length xs → i < length out
+    → set (take i xs ++ drop i out) i (getD xs i 0) ≡ take (suc i) xs ++ drop (suc i) out
 store [] out i h k = absurd (not-suc-le-zero h)
 store (x ∷ l) [] i h k = absurd (not-suc-le-zero k)
 store (x ∷ l) (y ∷ ys) zero h k = refl

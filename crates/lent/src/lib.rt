@@ -4,10 +4,9 @@ ghost use mathlib.Core.List.{_++_};
 ghost use Prim.Native.Nat.{_≤_};
 ghost use lib.ListN.{length, drop};
 ghost use Rattle.answer.specs.Answer.{gives};
-ghost use Rattle.answer.specs.Said.{replied, done};
+ghost use Rattle.answer.specs.Said.{replied};
 ghost use Rattle.tree.specs.Tree.{running};
-ghost use Rattle.lent.specs.Given.{numberIn, Given, GivenOne, twoWords, twofold, sixWords, sevenWords, sevenfold};
-use answer::Outcome;
+ghost use Rattle.lent.specs.Given.{Given, GivenOne, twoWords, twofold, sixWords, sevenWords, sevenfold};
 use answer::Reply;
 use tree::Buses;
 use tree::Clocks;
@@ -56,7 +55,7 @@ fn copy_bytes(bytes: &[u8], out: &mut [u8])
 }
 
 // Gives words through lent ones. Refused by 32: they are fewer.
-pub fn give(words: &[u32], out: &mut [u32]) -> u8
+fn give(words: &[u32], out: &mut [u32]) -> u8
     ensures { λ r. ⌜ Given (length (now (words .entry))) (gives (now (words .entry))) (now (out .entry)) (now (out .exit)) r ⌝ }
 {
     if out.len() < words.len() {
@@ -143,15 +142,5 @@ pub fn give_one(reply: Reply, out: &mut u32) -> u8
             *out = x;
             0
         }
-    }
-}
-
-// An outcome's number: 0, or its refusal.
-pub fn number(outcome: Outcome) -> u8
-    ensures { λ r. ⌜ r ≡ numberIn (done outcome) ⌝ }
-{
-    match outcome {
-        Outcome::Done => 0,
-        Outcome::Refused(n) => n,
     }
 }

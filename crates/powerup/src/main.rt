@@ -1,6 +1,7 @@
 // Runs whole startups against a simulated chip, and says of each how it ended. A case on standard input is a profile of ten bytes and the
 // step that is to fail (0: none). `oracle/record` makes the cases and, from the Rust, what is to be written.
 ghost use Prim.Native.Nat.{_<_};
+use answer::Reply;
 use image::Fields;
 use image::Seen;
 use profile::ReadProfile;
@@ -112,7 +113,10 @@ fn is_over(s: Startup) -> bool {
 // As many calls as demand 3 allows.
 fn run(begun: Startup, failing: u8) -> Startup {
     let config = begun.config;
-    let limit = startup::call_bound(config);
+    let bound = startup::call_bound(config);
+    let Reply::Is(limit) = bound else {
+        return begun;
+    };
     let mut s = begun;
     let mut calls: u32 = 0;
     while calls < limit {

@@ -27,7 +27,11 @@ abbrev clocks : Clocks
 clocks = record { sysclk = hsi; hclk = hsi; pclk1 = hsi; pclk2 = hsi; «pclk1_tim» = hsi; «pclk2_tim» = hsi }
 
 runs : clocksOf default ≡ gives (clocks, 2500000)
-unfolding clocksOf readProfile tests rawOf hseFields pllFields busFields adcFields configOf bitsAt checkOf named sourcesOf rngOf hsePresentOf hseOf mainOf ethOf usbHsOf sysclkOf busesOf treeClocksOf belowOf busOf timerClock adcOf adcRatioOf limitsOf adcFromHclkOf totalOf ahbOf ahbDivisor ahbDivisors apbOf apbDivisor byAhbOf byApbOf
+unfolding clocksOf
+    readProfile tests rawOf hseFields pllFields busFields adcFields configOf bitsAt
+    checkOf named sourcesOf rngOf hsePresentOf hseOf mainOf ethOf usbHsOf sysclkOf
+    busesOf treeClocksOf belowOf busOf timerClock byAhbOf ahbOf ahbDivisor ahbDivisors byApbOf apbOf apbDivisor
+    adcOf adcRatioOf limitsOf adcFromHclkOf totalOf
 runs = refl
 
 twenty : decimal hsi ≡ ascii "20000000"
@@ -46,7 +50,9 @@ a11 = ap textOf runs ∙ simp (twenty, two-and-a-half)
 
 -- row A2: HSE 4,999,999
 pub a2 : reportOf (0x80 ∷ 0x13 ∷ 0x12 ∷ 0xcf ∷ 0xc0 ∷ 0x18 ∷ 0x00 ∷ 0x00 ∷ 0x00 ∷ 0x34 ∷ []) ≡ ascii "refused 4\n"
-unfolding reportOf clocksOf textOf lineOf decimal digits readProfile tests rawOf hseFields pllFields busFields adcFields configOf bitsAt checkOf named sourcesOf rngOf hsePresentOf hseOf
+unfolding reportOf clocksOf textOf lineOf decimal digits
+    readProfile tests rawOf hseFields pllFields busFields adcFields configOf bitsAt
+    checkOf named sourcesOf rngOf hsePresentOf hseOf
 a2 = refl
 
 -- no byte at all

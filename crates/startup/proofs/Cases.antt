@@ -28,11 +28,11 @@ use Rattle.startup.specs.declared.FlashKey.the-variants.{NoKey}
 use Rattle.startup.specs.Call.{seenOf, modeRead, moved, waitedOf, readBackOf, comparedOf, worksIn, handedBack, callIn, stepBy, stepOf, keyOf}
 
 -- The list behind its first entry.
-abbrev behind : List Entry → List Entry
+abbrev pub behind : List Entry → List Entry
 behind [] = []
 behind (x ∷ l) = l
 
-behind-drop : (j : ℕ) (p : List Entry) → behind (drop j p) ≡ drop (suc j) p
+pub behind-drop : (j : ℕ) (p : List Entry) → behind (drop j p) ≡ drop (suc j) p
 behind-drop zero [] = refl
 behind-drop zero (x ∷ l) = refl
 behind-drop (suc j) [] = refl
@@ -184,10 +184,6 @@ module _ (L : ℕ) (s : Startup) (r : Reading) (l : List Entry) {b : Bool} (e : 
   call-on t =
       ap (λ (x : Bool). cond x (handedBack s) (worksIn L s r l)) (sym t) ∙
       ap (λ (x : Bool). cond (not x || ltb 8000001 (s .used)) (handedBack s) (worksIn L s r l)) e
-
-pub or-right : (a b : Bool) → (a || b) ≡ false → b ≡ false
-or-right true b e = let z : _≡_ {A = ℕ} 0 1 = cc in absurd (omega arith)
-or-right false b e = e
 
 -- Behind the four keys there is none.
 pub no-key : (k : ℕ) → (k ≡ 0 → ⊥) → (k ≡ 1 → ⊥) → (k ≡ 2 → ⊥) → (k ≡ 3 → ⊥) → NoKey ≡ keyOf k

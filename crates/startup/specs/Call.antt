@@ -7,7 +7,7 @@ use mathlib.Core.List.{List, [], _∷_}
 use lib.Dec.{ltb, leb, eqb}
 use lib.ListN.{drop}
 use lib.Count.{ones}
-use Rattle.answer.specs.Answer.{Answer, gives, refuses, refuse, _>>_, settled-by}
+use Rattle.answer.specs.Answer.{Answer, gives, refuses, refuse, _>>=_, _>>_, settled-by}
 use Rattle.tree.specs.declared.Clocks.{Clocks}
 use Rattle.v4x7.specs.declared.Config.{Config}
 use Rattle.v4x7.specs.Check.{namedOf, checkOf}
@@ -172,13 +172,17 @@ nextOf c promised k = k + 1 + skipped (drop k (steps c promised))
 abbrev pub maskOf : Config → ℕ
 maskOf c = cond (hasHse (c .hse)) 8 0 + cond (c .ethpll) 4 0 + cond (hasUsbHs (c .hspll)) 2 0 + cond (hasMain (c .pll)) 1 0
 
--- The waits owed are four and the ones in the enable bits.
-unfoldable pub waitsOwed : Config → ℕ
-waitsOwed c = 4 + ones (maskOf c)
+-- The waits owed are four and the ones in the enable bits; 28 for a code without a name.
+unfoldable pub waitsOwedOf : Config → Answer ℕ
+waitsOwedOf c = do
+  refuse 28 (not (namedOf c))
+  gives (4 + ones (maskOf c))
 
 -- 1,000,000 x (4 + n) + 20 calls
-unfoldable pub callBound : Config → ℕ
-callBound c = 1000000 * waitsOwed c + 20
+unfoldable pub callBoundOf : Config → Answer ℕ
+callBoundOf c = do
+  waits ← waitsOwedOf c
+  gives (1000000 * waits + 20)
 
 -- 19 keys 0x45670123, 0xCDEF89AB to KEYR, then both to MODEKEYR; behind them none
 abbrev pub keys : List FlashKey

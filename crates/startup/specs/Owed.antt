@@ -1,13 +1,15 @@
 -- The waits owed: the ones of the mask are the parts that the startup turns on.
 -- Assumes nothing.
 use Prim.Native.Nat.{ℕ, _+_, _≤_}
-use mathlib.Core.Path.{_≡_, refl, ap}
-use mathlib.Core.Bool.{Bool, true, false, cond}
+use mathlib.Core.Path.{_≡_, refl, sym, ap, _∙_}
+use mathlib.Core.Bool.{Bool, true, false, cond, not}
 use native.Mathlib.Omega.{arith}
 use lib.Count.{ones, onesIn}
+use Rattle.answer.specs.Answer.{gives, passed}
 use Rattle.v4x7.specs.declared.Config.{Config}
+use Rattle.v4x7.specs.Check.{namedOf}
 use Rattle.steps.specs.Steps.{hasHse, hasUsbHs, hasMain}
-use Rattle.startup.specs.Call.{maskOf, waitsOwed}
+use Rattle.startup.specs.Call.{maskOf, waitsOwedOf}
 
 abbrev pub bitOf : Bool → ℕ
 bitOf b = cond b 1 0
@@ -46,6 +48,9 @@ bit-le false = omega arith
 pub four-at-most : (c : Config) → turnedOn c ≤ 4
 four-at-most c = omega (arith, bit-le (hasHse (c .hse)), bit-le (c .ethpll), bit-le (hasUsbHs (c .hspll)), bit-le (hasMain (c .pll)))
 
-pub owed : (c : Config) → waitsOwed c ≡ 4 + turnedOn c
-unfolding waitsOwed
-owed c = ap (λ (n : ℕ). 4 + n) (ones-turned-on c)
+pub owed : (c : Config) {n : ℕ} → waitsOwedOf c ≡ gives n → n ≡ 4 + turnedOn c
+unfolding waitsOwedOf
+owed c {n} e =
+    let given = passed 28 (not (namedOf c)) _ e in
+    let is : 4 + ones (maskOf c) ≡ n = cc (given .after) in
+    sym is ∙ ap (λ (n : ℕ). 4 + n) (ones-turned-on c)

@@ -4,10 +4,12 @@ ghost use mathlib.Core.Path.{_≡_};
 ghost use mathlib.Core.Bool.{cond};
 ghost use Prim.Native.Nat.{_+_, _*_, _≤_, _<_};
 ghost use lib.ListN.{drop};
+ghost use Rattle.answer.specs.Said.{replied};
 ghost use Rattle.tree.specs.declared.Clocks.{Clocks};
 ghost use Rattle.steps.specs.Writes.{withSeen};
 ghost use Rattle.steps.specs.Steps.{steps, from};
-ghost use Rattle.startup.specs.Call.{seenOf, ended, handedBack, moved, unmetOf, waitedOf, readBackOf, comparedOf, worksIn, stepOf, startOf, begun, nextOf, maskOf, waitsOwed, callBound, keyOf};
+ghost use Rattle.startup.specs.Call.{seenOf, ended, handedBack, moved, unmetOf, waitedOf, readBackOf, comparedOf, worksIn, stepOf, startOf, begun, nextOf, maskOf, waitsOwedOf, callBoundOf, keyOf};
+use answer::Reply;
 use image::Fields;
 use image::Seen;
 use steps::Work;
@@ -106,18 +108,27 @@ fn mask(c: Config) -> u32
         + bit(steps::listed(c, 17), 1)
 }
 
-// How many waits a configuration's startup has: four, and one for each bit of the mask.
-pub fn waits_owed(c: Config) -> u32
-    ensures { λ r. ⌜ r ≡ waitsOwed c ⌝ }
+// How many waits a configuration's startup has: four, and one for each bit of the mask. 28 for a code without a name.
+pub fn waits_owed(c: Config) -> Reply
+    ensures { λ r. ⌜ replied r ≡ waitsOwedOf c ⌝ }
 {
-    4 + u32::count_ones(mask(c))
+    if !v4x7::named_codes(c) {
+        return Reply::Refused(answer::CODE_NOT_ALLOWED);
+    }
+    let waits = 4 + u32::count_ones(mask(c));
+    Reply::Is(waits)
 }
 
-// The startup is over within so many calls.
-pub fn call_bound(c: Config) -> u32
-    ensures { λ r. ⌜ r ≡ callBound c ⌝ }
+// The startup is over within so many calls. 28 for a code without a name.
+pub fn call_bound(c: Config) -> Reply
+    ensures { λ r. ⌜ replied r ≡ callBoundOf c ⌝ }
 {
-    READINGS * waits_owed(c) + 20
+    let owed = waits_owed(c);
+    let Reply::Is(waits) = owed else {
+        return owed;
+    };
+    let calls = READINGS * waits + 20;
+    Reply::Is(calls)
 }
 
 // A reading's ready bits and SWS.

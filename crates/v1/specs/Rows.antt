@@ -59,7 +59,9 @@ pub checks : Chip × Config → Answer (ℕ × ℕ)
 checks q = brief (checkOf (q .0) (q .1))
 
 pub rows-hold : Worked checks rows
-unfolding setup xtal brief rows checks checkOf wideConfig pllOf finishedOf outputOf multipliedOf factor sysclkOf usbDivisor clocksOf belowOf busOf timerClock byAhbOf ahbOf ahbDivisor ahbDivisors byApbOf apbOf apbDivisor
+unfolding setup xtal brief rows checks
+    checkOf wideConfig pllOf finishedOf outputOf multipliedOf factor sysclkOf usbDivisor
+    clocksOf belowOf busOf timerClock byAhbOf ahbOf ahbDivisor ahbDivisors byApbOf apbOf apbDivisor
 rows-hold = refl
 
 -- SWS, PLLSRC, PLLXTPRE, PLLMUL, the HSI bit; the prescalers at 1
@@ -84,5 +86,7 @@ reads q = do
   gives (k .hclk)
 
 pub readings-hold : Worked reads readings
-unfolding xtal fields readings reads decodeOf settingIn decodedOf readSysclkOf outputOf multipliedOf factor clocksOf belowOf busOf timerClock byAhbOf ahbOf ahbDivisor ahbDivisors byApbOf apbOf apbDivisor
+unfolding xtal fields readings reads
+    decodeOf settingIn decodedOf readSysclkOf outputOf multipliedOf factor
+    clocksOf belowOf busOf timerClock byAhbOf ahbOf ahbDivisor ahbDivisors byApbOf apbOf apbDivisor
 readings-hold = refl

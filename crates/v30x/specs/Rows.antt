@@ -77,7 +77,9 @@ pub checks : Config → Answer (ℕ × ℕ)
 checks c = brief (checkOf c)
 
 pub rows-hold : Worked checks rows
-unfolding setup plain xtal brief rows checks checkOf wideConfig sourcesOf pllOf fedOf usbhsOf finishedOf outputOf multipliedOf factor sysclkOf usbDivisor clocksOf belowOf busOf timerClock byAhbOf ahbOf ahbDivisor ahbDivisors byApbOf apbOf apbDivisor
+unfolding setup plain xtal brief rows checks
+    checkOf wideConfig sourcesOf pllOf fedOf usbhsOf finishedOf outputOf multipliedOf factor sysclkOf usbDivisor
+    clocksOf belowOf busOf timerClock byAhbOf ahbOf ahbDivisor ahbDivisors byApbOf apbOf apbDivisor
 rows-hold = refl
 
 -- SWS, PLLSRC, PREDIV1, PREDIV1SRC, PLLMUL, the HSI bit; the prescalers at 1
@@ -102,5 +104,7 @@ reads q = do
   gives (k .hclk)
 
 pub readings-hold : Worked reads readings
-unfolding xtal fields readings reads decodeOf wideFields settingIn decodedOf readSysclkOf outputOf multipliedOf factor clocksOf belowOf busOf timerClock byAhbOf ahbOf ahbDivisor ahbDivisors byApbOf apbOf apbDivisor
+unfolding xtal fields readings reads
+    decodeOf wideFields settingIn decodedOf readSysclkOf outputOf multipliedOf factor
+    clocksOf belowOf busOf timerClock byAhbOf ahbOf ahbDivisor ahbDivisors byApbOf apbOf apbDivisor
 readings-hold = refl

@@ -16,6 +16,7 @@ struct Simulated {
 }
 
 impl Chip for Simulated {
+    // On a chip: the fields that changed, but never the ready bits and SWS; at step 20 SCKMOD, LOCK and FLOCK in any case.
     fn write(&mut self, image: [u8; IMAGE_SIZE]) {
         self.image = image;
     }
@@ -66,7 +67,7 @@ fn answers() -> Result<(), Refusal> {
 
 fn main() {
     if let Err(refusal) = answers() {
-        println!("refused {}: {}", refusal.number(), refusal.text());
+        println!("refused {}: {refusal}", refusal.number());
         std::process::exit(1);
     }
 }

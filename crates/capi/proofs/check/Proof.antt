@@ -33,8 +33,13 @@ returns c =
     let at-clocks = c .before .before .before in
     let at-config = at-clocks .before .before in
     let at-read-profile = at-config .before .before in
-    simp
-    (told profileRead (at-read-profile .read-profile .ensures) (at-config .config .given .1), told accepted (at-clocks .clocks .ensures) (c .before .enum-told .given .1), (c .refused .ensures), (c .before .enum-told .given .1))
+    let not-accepted = c .before .enum-told .given .1 in
+    simp (
+      told profileRead (at-read-profile .read-profile .ensures) (at-config .config .given .1),
+      told accepted (at-clocks .clocks .ensures) not-accepted,
+      c .refused .ensures,
+      not-accepted,
+    )
 
 returns-2 : tie.Need-returns-2
 unfolding checkRead
@@ -46,8 +51,10 @@ returns-3 c =
     let at-clocks = c .before .before .before in
     let at-config = at-clocks .before .before in
     let at-read-profile = at-config .before .before in
-    simp
-    (told profileRead (at-read-profile .read-profile .ensures) (at-config .config .given .1), told accepted (at-clocks .clocks .ensures) (c .before .checked .given .1))
+    simp (
+      told profileRead (at-read-profile .read-profile .ensures) (at-config .config .given .1),
+      told accepted (at-clocks .clocks .ensures) (c .before .checked .given .1),
+    )
 
 pub check-spec : {M : Type 1} → statement M
 check-spec =

@@ -25,7 +25,12 @@ shared-slice-read-w c = search needs
 
 cast-w : tie.Need-cast-w Inv-loop μ-loop
 unfolding Inv-loop
-cast-w c = let w = width _ _ _ _ _ _ (c .before .before .before .before .before .before .pre .0) (c .before .before .before .before .before .before .pre .1 .1) (c .before .before .loop .inv) (c .before .loop-test .taken) in record { fits = omega arith }
+cast-w c =
+    let at-loop-test = c .before in
+    let at-loop = at-loop-test .before in
+    let at-pre = at-loop .before .before .before .before in
+    let w = width _ _ _ _ _ _ (at-pre .pre .0) (at-pre .pre .1 .1) (at-loop .loop .inv) (at-loop-test .loop-test .taken) in
+    record { fits = omega arith }
 
 code-requires : tie.Need-code-requires Inv-loop μ-loop
 code-requires c κs = search needs
@@ -40,7 +45,15 @@ slice-write-out c =
 
 add-at : tie.Need-add-at Inv-loop μ-loop
 unfolding Inv-loop
-add-at c = let t = (c .before .before .loop-test .taken) in let n = (c .before .before .before .loop .inv .near) in let w = width _ _ _ _ _ _ (c .before .before .before .before .before .before .before .pre .0) (c .before .before .before .before .before .before .before .pre .1 .1) (c .before .before .before .loop .inv) (c .before .before .loop-test .taken) in let m = (c .before .before .before .before .before .before .before .pre .1 .0) in record { fits = omega arith }
+add-at c =
+    let at-loop-test = c .before .before in
+    let at-loop = at-loop-test .before in
+    let at-pre = at-loop .before .before .before .before in
+    let taken = at-loop-test .loop-test .taken in
+    let near = at-loop .loop .inv .near in
+    let most = at-pre .pre .1 .0 in
+    let w = width _ _ _ _ _ _ (at-pre .pre .0) (at-pre .pre .1 .1) (at-loop .loop .inv) taken in
+    record { fits = omega arith }
 
 add-i : tie.Need-add-i Inv-loop μ-loop
 add-i c =

@@ -37,8 +37,10 @@ returns-2 c =
     let at-read-image = c .before .before .before in
     let at-config = at-read-image .before .before in
     let at-read-profile = at-config .before .before in
-    simp
-    (told profileRead (at-read-profile .read-profile .ensures) (at-config .config .given .1), told imageRead (at-read-image .read-image .ensures) (c .before .n2 .given .1))
+    simp (
+      told profileRead (at-read-profile .read-profile .ensures) (at-config .config .given .1),
+      told imageRead (at-read-image .read-image .ensures) (c .before .n2 .given .1),
+    )
 
 returns-3 : tie.Need-returns-3
 unfolding startRead
@@ -47,9 +49,10 @@ returns-3 c =
     let at-read-image = at-fields .before .before in
     let at-config = at-read-image .before .before in
     let at-read-profile = at-config .before .before in
-    simp
-    (told profileRead (at-read-profile .read-profile .ensures) (at-config .config .given .1), told imageRead (at-read-image .read-image .ensures) (at-fields .fields .given .1))
-    (c .start .ensures)
+    simp (
+      told profileRead (at-read-profile .read-profile .ensures) (at-config .config .given .1),
+      told imageRead (at-read-image .read-image .ensures) (at-fields .fields .given .1),
+    ) (c .start .ensures)
 
 pub begin-spec : {M : Type 1} → statement M
 begin-spec =

@@ -66,17 +66,16 @@ hspll-requires c κs = search needs
 returns : tie.Need-returns
 unfolding configOf
 returns c =
-    let hse = c .before .before .before .before .before .before .before .before .before .before .before .before .before .before .before .before .hse in
-    let frequency = c .before .before .before .before .before .before .before .before .before .before .before .before .before .before .before .before .before .frequency in
-    let pll-source = c .before .before .before .before .before .before .before .before .before .before .before .before .before .pll-source in
-    let pll = c .before .before .before .before .before .before .before .before .before .pll in
-    let source-of = c .before .before .before .source-of in
+    let at-source-of = c .before .before .before in
+    let at-pll = at-source-of .before .before .before .before .before .before in
+    let at-pll-source = at-pll .before .before .before .before in
+    let at-hse = at-pll-source .before .before .before in
     rw (
-      hse .ensures,
-      frequency .ensures,
-      pll-source .ensures,
-      pll .ensures,
-      source-of .ensures,
+      at-hse .hse .ensures,
+      at-hse .before .frequency .ensures,
+      at-pll-source .pll-source .ensures,
+      at-pll .pll .ensures,
+      at-source-of .source-of .ensures,
       c .hspll .ensures,
     )
 

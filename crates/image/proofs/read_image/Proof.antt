@@ -42,8 +42,10 @@ read-fields-requires c κs = search needs
 
 returns-3 : tie.Need-returns-3
 returns-3 c =
-    taken (c .before .before .before .before .before .args .s .now) _ (c .before .before .before .if1 .left) (c .before .before .code .ensures) _ (c .before .if2 .left)
-    (c .read-fields .ensures)
+    let at-code = c .before .before in
+    let at-if1 = at-code .before in
+    let args = at-if1 .before .before .args in
+    taken (args .s .now) _ (at-if1 .if1 .left) (at-code .code .ensures) _ (c .before .if2 .left) (c .read-fields .ensures)
 
 pub read-image-spec : {M : Type 1} → statement M
 read-image-spec = tie.close (tie.spec returns code-requires returns-2 read-fields-requires returns-3)

@@ -66,7 +66,8 @@ returns-2 : tie.Need-returns-2
 returns-2 c =
     let a = c .before .before .before .before .before .before .before in
     let s = a .before .before .before .args in
-    accepted (s .f) (s .out .now) (a .list-of .result) _ _ (a .before .if1 .left) (a .list-of .ensures) (c .before .before .before .store .ensures) (c .if2 .taken)
+    let store = c .before .before .before .store in
+    accepted (s .f) (s .out .now) (a .list-of .result) _ _ (a .before .if1 .left) (a .list-of .ensures) (store .ensures) (c .if2 .taken)
 
 same-length-2 : tie.Need-same-length-2
 same-length-2 c = search needs
@@ -75,7 +76,8 @@ returns-3 : tie.Need-returns-3
 returns-3 c =
     let a = c .before .before .before .before .before .before .before in
     let s = a .before .before .before .args in
-    too-wide (s .f) (s .out .now) (a .list-of .result) _ _ (a .before .if1 .left) (a .list-of .ensures) (c .before .before .before .store .ensures) (c .if2 .left)
+    let store = c .before .before .before .store in
+    too-wide (s .f) (s .out .now) (a .list-of .result) _ _ (a .before .if1 .left) (a .list-of .ensures) (store .ensures) (c .if2 .left)
 
 pub write-image-spec : {M : Type 1} → statement M
 write-image-spec =

@@ -28,14 +28,15 @@ module _ (ws xs : List ℕ) where
   unequal h = refuted (storable ws xs) (λ t. h (fitting-length ws xs (storable-fitting ws xs t)))
 
   module _ (i : ℕ) (l : length ws ≡ length xs) (e : storable ws xs ≡ storable (drop i ws) (drop i xs)) where
-    next : (t : Bool) → i < length ws → t ≡ storableIn (getD ws i 0) (getD xs i 0) → storable ws xs ≡ (t && storable (drop (i + 1) ws) (drop (i + 1) xs))
-    next t h f = let k : i < length xs = omega arith in e ∙ rw (storable-at ws xs i h k, f)
+    module _ (t : Bool) (h : i < length ws) (f : t ≡ storableIn (getD ws i 0) (getD xs i 0)) where
+      next : storable ws xs ≡ (t && storable (drop (i + 1) ws) (drop (i + 1) xs))
+      next = let k : i < length xs = omega arith in e ∙ rw (storable-at ws xs i h k, f)
 
-    wrong : (t : Bool) → i < length ws → t ≡ storableIn (getD ws i 0) (getD xs i 0) → not t ≡ true → false ≡ storable ws xs
-    wrong t h f k = rw (next t h f, not-true t k)
+      wrong : not t ≡ true → false ≡ storable ws xs
+      wrong k = rw (next, not-true t k)
 
-    right : (t : Bool) → i < length ws → t ≡ storableIn (getD ws i 0) (getD xs i 0) → not t ≡ false → storable ws xs ≡ storable (drop (i + 1) ws) (drop (i + 1) xs)
-    right t h f k = next t h f ∙ rw (not-false t k)
+      right : not t ≡ false → storable ws xs ≡ storable (drop (i + 1) ws) (drop (i + 1) xs)
+      right k = next ∙ rw (not-false t k)
 
     ended : i ≡ length ws → true ≡ storable ws xs
     ended h =
@@ -60,10 +61,12 @@ fits-in-requires c κs = search needs
 
 returns-2 : tie.Need-returns-2 Inv-loop μ-loop
 returns-2 c =
-    let at-loop = c .before .before .before .before .before in
-    let at-before = at-loop .before .before .before in
-    wrong (at-before .before .args .ws .now) (at-before .before .args .xs .now) (at-loop .loop .i) (c .before .before .before .before .before .before .if1 .left) (at-loop .loop .inv .1) _ (c .before .before .before .before .loop-test .taken) (c .before .fits-in .ensures)
-    (c .if2 .taken)
+    let at-test = c .before .before .before .before in
+    let l = at-test .before .loop in
+    let at-if1 = at-test .before .before in
+    let args = at-if1 .before .before .before .args in
+    wrong (args .ws .now) (args .xs .now) (l .i) (at-if1 .if1 .left) (l .inv .1)
+    _ (at-test .loop-test .taken) (c .before .fits-in .ensures) (c .if2 .taken)
 
 add-i : tie.Need-add-i Inv-loop μ-loop
 add-i c = search needs
@@ -73,11 +76,13 @@ loop-less c = search needs
 
 loop-again : tie.Need-loop-again Inv-loop μ-loop
 loop-again c =
-    let l = c .before .before .before .before .before .loop in
-    let s = c .before .before .before .before .before .before .before .before .before in (
+    let at-test = c .before .before .before .before in
+    let l = at-test .before .loop in
+    let at-if1 = at-test .before .before in
+    let args = at-if1 .before .before .before .args in (
       search needs,
-      right (s .args .ws .now) (s .args .xs .now) (l .i) (c .before .before .before .before .before .before .if1 .left) (l .inv .1) _ (c .before .before .before .before .loop-test .taken) (c .before .fits-in .ensures)
-          (c .if2 .left),
+      right (args .ws .now) (args .xs .now) (l .i) (at-if1 .if1 .left) (l .inv .1)
+          _ (at-test .loop-test .taken) (c .before .fits-in .ensures) (c .if2 .left),
     )
 
 returns-3 : tie.Need-returns-3 Inv-loop μ-loop

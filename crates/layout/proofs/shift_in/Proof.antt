@@ -90,11 +90,21 @@ module _ (from out : List ℕ) (q v k i b : ℕ) (d : Done from out q v k i) (h 
         long = simp length-set (d .long);
         small = omega arith;
         kept =
-            take-set-le (i - 1) out (i - 1) (t % 256) u ∙ sym (take-take (i - 1) i out oo) ∙ ap (take (i - 1)) (d .kept) ∙ take-take (i - 1) i from oo;
+            take-set-le (i - 1) out (i - 1) (t % 256) u ∙ sym (take-take (i - 1) i out oo) ∙ ap (take (i - 1)) (d .kept)
+            ∙ take-take (i - 1) i from oo;
         rest = rw left (omega (arith, whole, p));
         placed =
             let r : t % 256 ≡ v / 2 ^ total (bytes (length from - i)) % 256 = omega (arith, whole) in
-            rw (left, drop-cons (set out (i - 1) (t % 256)) (i - 1) 0 m, getD-set-same out (i - 1) (t % 256) 0 n, back, drop-set-lt i out (i - 1) (t % 256) o, d .placed, r);
+            let z = t % 256 in
+            rw (
+              left,
+              drop-cons (set out (i - 1) z) (i - 1) 0 m,
+              getD-set-same out (i - 1) z 0 n,
+              back,
+              drop-set-lt i out (i - 1) z o,
+              d .placed,
+              r,
+            );
       }
 
 two-requires : tie.Need-two-requires Inv-loop μ-loop
@@ -104,7 +114,9 @@ wide-requires : tie.Need-wide-requires Inv-loop μ-loop
 wide-requires c κs = search needs
 
 loop-holds : tie.Need-loop-holds Inv-loop μ-loop
-loop-holds c = let s = c .before .before .before in begin (s .args .out .now) (2 ^ s .args .w) (s .args .x) (c .wide .result) (c .wide .ensures .0) (c .wide .ensures .1)
+loop-holds c =
+    let args = c .before .before .before .args in
+    begin (args .out .now) (2 ^ args .w) (args .x) (c .wide .result) (c .wide .ensures .0) (c .wide .ensures .1)
 
 sub-i : tie.Need-sub-i Inv-loop μ-loop
 sub-i c = omega arith
@@ -115,17 +127,20 @@ slice-read-wide c = let d = c .before .before .loop .inv in omega (arith, d .wit
 wide-requires-2 : tie.Need-wide-requires-2 Inv-loop μ-loop
 wide-requires-2 c κs = search needs
 
+-- a turn's sum fits in 16 bits
+sum-fits : (c : tie.After-wide2 Inv-loop μ-loop)
+    → let at-loop = c .before .before .before in
+    c .wide2 .result * at-loop .before .before .two .result + at-loop .loop .carry < 65536
+sum-fits c =
+    let at-loop = c .before .before .before in
+    let s = at-loop .before .before .before .before in
+    fits _ _ _ (s .args .w) (c .wide2 .ensures .1) (at-loop .before .before .two .ensures) (s .pre) (at-loop .loop .inv .small)
+
 mul-t : tie.Need-mul-t Inv-loop μ-loop
-mul-t c =
-    let s = c .before .before .before .before .before .before .before in
-    let h = fits _ _ _ (s .args .w) (c .wide2 .ensures .1) (c .before .before .before .before .before .two .ensures) (s .pre) (c .before .before .before .loop .inv .small) in
-    omega arith
+mul-t c = omega (arith, sum-fits c)
 
 add-t : tie.Need-add-t Inv-loop μ-loop
-add-t c =
-    let s = c .before .before .before .before .before .before .before in
-    let h = fits _ _ _ (s .args .w) (c .wide2 .ensures .1) (c .before .before .before .before .before .two .ensures) (s .pre) (c .before .before .before .loop .inv .small) in
-    omega arith
+add-t c = omega (arith, sum-fits c)
 
 cast-out : tie.Need-cast-out Inv-loop μ-loop
 cast-out c = search needs
@@ -138,12 +153,14 @@ loop-less c = omega arith
 
 loop-again : tie.Need-loop-again Inv-loop μ-loop
 loop-again c =
-    let s = c .before .before .before .before .before .before .before in
-    let l = c .before .before .before .loop in
-    let two = c .before .before .before .before .before .two in
-    let h = fits _ _ _ (s .args .w) (c .wide2 .ensures .1) (two .ensures) (s .pre) (l .inv .small) in
-    step (s .args .out .now) (l .out) (2 ^ s .args .w) (num (s .args .out .now) * 2 ^ s .args .w + s .args .x) (l .carry) (l .i) (c .wide2 .result) (l .inv)
-    (c .before .before .loop-test .taken) (c .wide2 .ensures .0) _ (ap (λ (p : ℕ). c .wide2 .result * p + l .carry) (two .ensures)) h
+    let at-loop = c .before .before .before in
+    let l = at-loop .loop in
+    let two = at-loop .before .before .two in
+    let args = at-loop .before .before .before .before .args in
+    let from = args .out .now in
+    let q = 2 ^ args .w in
+    step from (l .out) q (num from * q + args .x) (l .carry) (l .i) (c .wide2 .result) (l .inv) (c .before .before .loop-test .taken)
+    (c .wide2 .ensures .0) _ (ap (λ (p : ℕ). c .wide2 .result * p + l .carry) (two .ensures)) (sum-fits c)
 
 same-length : tie.Need-same-length Inv-loop μ-loop
 same-length c = c .before .loop .inv .long

@@ -1,6 +1,6 @@
 -- `layout::store` meets its contract. The invariant: what the bytes hold, with the fields from i on shifted in, is the whole. Assumes nothing.
 use mathlib.Core.Path.{_≡_, refl, sym, ap, _∙_}
-use mathlib.Core.Bool.{Bool, true, false}
+use mathlib.Core.Bool.{Bool, true, false, _&&_}
 use mathlib.Core.List.{List, []}
 use Prim.Native.Nat.{ℕ, _+_, _*_, _^_, _≤_, _<_, _-_}
 use native.Mathlib.Omega.{arith}
@@ -34,16 +34,18 @@ module _ (ws xs from out : List ℕ) (i : ℕ) (e : length ws ≡ length xs) (d 
       let z : drop i ws ≡ [] = rw h (drop-length ws) in
       let a : unpack (bytes (length from)) (num out * 1 + 0) ≡ shifted ws xs from = rw z at (d .whole) in
       let b : num out * 1 + 0 ≡ num out = omega arith in
-      sym (unpack-pack (bytes (length out)) out (d .low)) ∙ ap (λ (n : ℕ). unpack (bytes n) (num out)) (d .long) ∙ ap (unpack (bytes (length from))) (sym b) ∙ a
+      sym (unpack-pack (bytes (length out)) out (d .low)) ∙ ap (λ (n : ℕ). unpack (bytes n) (num out)) (d .long)
+      ∙ ap (unpack (bytes (length from))) (sym b) ∙ a
 
   module _ (h : i < length ws) where
-    here : storableIn (getD ws i 0) (getD xs i 0) ≡ true
-    here =
-        let k : i < length xs = omega arith in
-        and-left (storableIn (getD ws i 0) (getD xs i 0)) (storable (drop (i + 1) ws) (drop (i + 1) xs)) (sym (storable-at ws xs i h k) ∙ d .fit)
+    both : (storableIn (getD ws i 0) (getD xs i 0) && storable (drop (i + 1) ws) (drop (i + 1) xs)) ≡ true
+    both = let k : i < length xs = omega arith in sym (storable-at ws xs i h k) ∙ d .fit
 
     narrow : getD ws i 0 ≤ 8
-    narrow = leb-true (getD ws i 0) 8 (and-left (leb (getD ws i 0) 8) (ltb (getD xs i 0) (2 ^ getD ws i 0)) here)
+    narrow =
+        let w = getD ws i 0 in
+        let x = getD xs i 0 in
+        leb-true w 8 (and-left (leb w 8) (ltb x (2 ^ w)) (and-left (storableIn w x) (storable (drop (i + 1) ws) (drop (i + 1) xs)) both))
 
     next : (o : List ℕ) → o ≡ unpack (bytes (length out)) (num out * 2 ^ getD ws i 0 + getD xs i 0) → Shifting ws xs from o (i + 1)
     next o f =
@@ -57,8 +59,7 @@ module _ (ws xs from out : List ℕ) (i : ℕ) (e : length ws ≡ length xs) (d 
         record {
           within = omega arith;
           long = l;
-          fit =
-              and-right (storableIn (getD ws i 0) (getD xs i 0)) (storable (drop (i + 1) ws) (drop (i + 1) xs)) (sym (storable-at ws xs i h k) ∙ d .fit);
+          fit = and-right (storableIn (getD ws i 0) (getD xs i 0)) (storable (drop (i + 1) ws) (drop (i + 1) xs)) both;
           low = ap (λ (m : ℕ). fitting (bytes m) o) l ∙ ap (fitting (bytes n)) g ∙ fitting-unpack (bytes n) v;
           whole =
               ap (λ (m : ℕ). unpack (bytes n) (m * t + r)) (ap num g ∙ num-unpack n v) ∙ shift-wrapped (bytes n) v t r
@@ -71,8 +72,15 @@ done ws xs l l′ r e h k = record { answer = sym (e ∙ h); bytes = rw (e ∙ h
 refused : (ws xs l : List ℕ) (r : Bool) → storable ws xs ≡ r → r ≡ false → Stored ws xs l l false
 refused ws xs l r e h = record { answer = sym (e ∙ h); bytes = rw (e ∙ h) }
 
-same-count : (ws xs : List ℕ) (r : Bool) → r ≡ storable ws xs → r ≡ true → length ws ≡ length xs
-same-count ws xs r e h = fitting-length ws xs (storable-fitting ws xs (sym e ∙ h))
+-- past the test there are as many fields as widths
+same-count : (c : tie.Then1 Inv-loop μ-loop)
+    → let args = c .before .before .before .before .before .args in
+    length (args .ws .now) ≡ length (args .xs .now)
+same-count c =
+    let args = c .before .before .before .before .before .args in
+    let ws = args .ws .now in
+    let xs = args .xs .now in
+    fitting-length ws xs (storable-fitting ws xs (sym (c .before .fits2 .ensures) ∙ c .if1 .taken))
 
 fits-requires : tie.Need-fits-requires Inv-loop μ-loop
 fits-requires c κs = search needs
@@ -93,15 +101,15 @@ shared-slice-read-shift-in c = search needs
 
 shared-slice-read-shift-in-2 : tie.Need-shared-slice-read-shift-in-2 Inv-loop μ-loop
 shared-slice-read-shift-in-2 c =
-    let s = c .before .before .before .before .before .before .before .before .before .before in
-    let e = same-count (s .args .ws .now) (s .args .xs .now) _ (c .before .before .before .before .before .before .fits2 .ensures) (c .before .before .before .before .before .if1 .taken) in
+    let e = same-count (c .before .before .before .before .before) in
     omega arith
 
 shift-in-requires : tie.Need-shift-in-requires Inv-loop μ-loop
 shift-in-requires c κs =
-    let s = c .before .before .before .before .before .before .before .before .before .before in
-    let e = same-count (s .args .ws .now) (s .args .xs .now) _ (c .before .before .before .before .before .before .fits2 .ensures) (c .before .before .before .before .before .if1 .taken) in
-    narrow (s .args .ws .now) (s .args .xs .now) (s .args .out .now) _ _ e (c .before .before .before .before .loop .inv) (c .before .before .before .loop-test .taken)
+    let at-test = c .before .before .before in
+    let at-if1 = at-test .before .before in
+    let args = at-if1 .before .before .before .before .before .args in
+    narrow (args .ws .now) (args .xs .now) (args .out .now) _ _ (same-count at-if1) (at-test .before .loop .inv) (at-test .loop-test .taken)
 
 add-i : tie.Need-add-i Inv-loop μ-loop
 add-i c = search needs
@@ -111,20 +119,22 @@ loop-less c = search needs
 
 loop-again : tie.Need-loop-again Inv-loop μ-loop
 loop-again c =
-    let a = c .before .before .before .before .before .before .before in
-    let s = a .before .before .before .before .before .before in
-    let e = same-count (s .args .ws .now) (s .args .xs .now) _ (a .before .before .fits2 .ensures) (a .before .if1 .taken) in
-    next (s .args .ws .now) (s .args .xs .now) (s .args .out .now) _ _ e (a .loop .inv) (c .before .before .before .before .before .before .loop-test .taken) _ (c .before .before .shift-in .ensures)
+    let at-test = c .before .before .before .before .before .before in
+    let at-if1 = at-test .before .before in
+    let args = at-if1 .before .before .before .before .before .args in
+    next (args .ws .now) (args .xs .now) (args .out .now) _ _ (same-count at-if1) (at-test .before .loop .inv) (at-test .loop-test .taken)
+    _ (c .before .before .shift-in .ensures)
 
 same-length : tie.Need-same-length Inv-loop μ-loop
 same-length c = c .before .loop .inv .long
 
 returns : tie.Need-returns Inv-loop μ-loop
 returns c =
-    let s = c .before .before .before .before .before .before .before in
-    let e = same-count (s .args .ws .now) (s .args .xs .now) _ (c .before .before .before .fits2 .ensures) (c .before .before .if1 .taken) in
-    done (s .args .ws .now) (s .args .xs .now) (s .args .out .now) _ _ (sym (c .before .before .before .fits2 .ensures)) (c .before .before .if1 .taken)
-    (ended (s .args .ws .now) (s .args .xs .now) (s .args .out .now) _ _ e (c .before .loop .inv) (omega arith))
+    let at-if1 = c .before .before in
+    let fits = at-if1 .before .fits2 in
+    let args = at-if1 .before .before .before .before .before .args in
+    done (args .ws .now) (args .xs .now) (args .out .now) _ _ (sym (fits .ensures)) (at-if1 .if1 .taken)
+    (ended (args .ws .now) (args .xs .now) (args .out .now) _ _ (same-count at-if1) (c .before .loop .inv) (omega arith))
 
 returns-2 : tie.Need-returns-2 Inv-loop μ-loop
 returns-2 c =

@@ -1,8 +1,8 @@
-use mathlib.Core.Path.{ap}
-use Prim.Native.Nat.{_*_, ℕ, _+_, _-_}
 use native.Mathlib.Omega.{arith}
 use borrow.Author.Needs.{needs}
-use Rattle.startup.specs.Call.{callBound}
+use Rattle.answer.specs.Answer.{told}
+use Rattle.answer.specs.Said.{replied}
+use Rattle.startup.specs.Call.{callBoundOf}
 use Rattle.startup.specs.Owed.{owed, four-at-most}
 use Rattle.startup.proofs.call_bound.Statement.{statement}
 use Rattle.startup.proofs.call_bound.Tie as tie
@@ -10,17 +10,35 @@ use Rattle.startup.proofs.call_bound.Tie as tie
 waits-owed-requires : tie.Need-waits-owed-requires
 waits-owed-requires c κs = search needs
 
-mul-result : tie.Need-mul-result
-mul-result c =
-    omega (arith, c .waits-owed .ensures, owed (c .before .args .c), four-at-most (c .before .args .c))
+enum-known-owed : tie.Need-enum-known-owed
+enum-known-owed c = search needs
 
-add-result : tie.Need-add-result
-add-result c =
-    omega (arith, c .waits-owed .ensures, owed (c .before .args .c), four-at-most (c .before .args .c))
+enum-told : tie.Need-enum-told
+enum-told c = search needs
 
 returns : tie.Need-returns
-unfolding callBound
-returns c = ap (λ (n : ℕ). 1000000 * n + 20) (c .waits-owed .ensures)
+unfolding callBoundOf
+returns c =
+    let owes = c .before .before .waits-owed .ensures in
+    simp (c .enum-told .given .1, told replied owes (c .enum-told .given .1))
+
+mul-calls : tie.Need-mul-calls
+mul-calls c =
+    let at-waits-owed = c .before .before .before in
+    let config = at-waits-owed .before .args .c in
+    omega (arith, owed config (told replied (at-waits-owed .waits-owed .ensures) (c .before .owed .given .1)), four-at-most config)
+
+add-calls : tie.Need-add-calls
+add-calls c =
+    let at-waits-owed = c .before .before .before in
+    let config = at-waits-owed .before .args .c in
+    omega (arith, owed config (told replied (at-waits-owed .waits-owed .ensures) (c .before .owed .given .1)), four-at-most config)
+
+returns-2 : tie.Need-returns-2
+unfolding callBoundOf
+returns-2 c = simp (told replied (c .before .before .before .waits-owed .ensures) (c .before .owed .given .1))
 
 pub call-bound-spec : {M : Type 1} → statement M
-call-bound-spec = tie.close (tie.spec waits-owed-requires mul-result add-result returns)
+call-bound-spec =
+    tie.close
+    (tie.spec waits-owed-requires enum-known-owed enum-told returns mul-calls add-calls returns-2)

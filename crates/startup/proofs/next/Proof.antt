@@ -5,13 +5,18 @@ use native.Mathlib.Numerals.{add-one}
 use native.Mathlib.Omega.{arith}
 use Rattle.steps.specs.Steps.{steps, from, listedOf}
 use Rattle.tree.specs.declared.Clocks.{Clocks}
+use Rattle.v4x7.specs.declared.Config.{Config}
 use Rattle.startup.specs.Call.{nextOf, skipped}
 use Rattle.startup.proofs.Skip.{on-stop, off-more}
 use Rattle.startup.proofs.next.Statement.{statement}
 use Rattle.startup.proofs.next.Tie as tie
 
+-- the first step from n on that is listed
+abbrev onFrom : Config → Clocks → ℕ → ℕ
+onFrom config x n = n + skipped (from n (steps config x))
+
 abbrev Inv-loop : tie.InvT-loop
-Inv-loop config step n₀ n = (0 < n) × (n ≤ 28) × ((x : Clocks) → nextOf config x step ≡ n + skipped (from n (steps config x)))
+Inv-loop config step n₀ n = (0 < n) × (n ≤ 28) × ((x : Clocks) → nextOf config x step ≡ onFrom config x n)
 
 abbrev μ-loop : tie.MeasureT-loop
 μ-loop config step n₀ n = 28 - n
@@ -22,7 +27,11 @@ add-n c = omega arith
 loop-holds : tie.Need-loop-holds Inv-loop μ-loop
 unfolding nextOf
 loop-holds c =
-    (omega arith, omega arith, λ x. ap (λ (m : ℕ). (c .args .step) + 1 + skipped (from m (steps (c .args .config) x))) (sym (add-one (c .args .step))))
+    let args = c .args in (
+      omega arith,
+      omega arith,
+      λ x. ap (λ (m : ℕ). args .step + 1 + skipped (from m (steps (args .config) x))) (sym (add-one (args .step))),
+    )
 
 listed-requires : tie.Need-listed-requires Inv-loop μ-loop
 listed-requires c κs = omega arith
@@ -32,7 +41,8 @@ unfolding listedOf
 returns c =
     let loop-at = c .before .before .before .loop in
     let args = c .before .before .before .before .args in
-    λ x. sym ((loop-at .inv .2) x ∙ on-stop (loop-at .n) (steps (args .config) x) (sym ((c .before .listed .ensures) x) ∙ (c .if1 .taken)))
+    let listed = c .before .listed .ensures in
+    λ x. sym (loop-at .inv .2 x ∙ on-stop (loop-at .n) (steps (args .config) x) (sym (listed x) ∙ c .if1 .taken))
 
 add-n-2 : tie.Need-add-n-2 Inv-loop μ-loop
 add-n-2 c = omega arith
@@ -45,13 +55,19 @@ unfolding listedOf
 loop-again c =
     let loop-at = c .before .before .before .loop in
     let args = c .before .before .before .before .args in
-    (omega arith, omega arith, λ x. (loop-at .inv .2) x ∙ off-more (loop-at .n) (steps (args .config) x) (omega arith) (omega arith) (sym ((c .before .listed .ensures) x) ∙ (c .if1 .left)))
+    let listed = c .before .listed .ensures in (
+      omega arith,
+      omega arith,
+      λ x. loop-at .inv .2 x ∙
+          off-more (loop-at .n) (steps (args .config) x) (omega arith) (omega arith) (sym (listed x) ∙ c .if1 .left),
+    )
 
 returns-2 : tie.Need-returns-2 Inv-loop μ-loop
 returns-2 c =
     let args = c .before .before .args in
-    λ x. let e = le-antisymm (c .before .loop .inv .1) (c .loop-test .left) in e ∙
-    sym ((c .before .loop .inv .2) x ∙ ap (λ (m : ℕ). m + skipped (from m (steps (args .config) x))) e)
+    let inv = c .before .loop .inv in
+    let e = le-antisymm (inv .1) (c .loop-test .left) in
+    λ x. e ∙ sym (inv .2 x ∙ ap (onFrom (args .config) x) e)
 
 pub next-spec : {M : Type 1} → statement M
 next-spec =

@@ -1,27 +1,30 @@
-use mathlib.Core.Path.{_∙_, ap}
-use Prim.Native.Nat.{ℕ, _+_, _-_}
+use mathlib.Core.Path.{sym, _∙_, ap}
 use native.Mathlib.Omega.{arith}
 use borrow.Author.Needs.{needs}
 use lib.Count.{ones}
-use Rattle.startup.specs.Call.{waitsOwed}
+use Rattle.startup.specs.Call.{waitsOwedOf}
 use Rattle.startup.specs.Owed.{ones-turned-on, four-at-most}
 use Rattle.startup.proofs.waits_owed.Statement.{statement}
 use Rattle.startup.proofs.waits_owed.Tie as tie
 
+named-codes-requires : tie.Need-named-codes-requires
+named-codes-requires c κs = search needs
+
+returns : tie.Need-returns
+unfolding waitsOwedOf
+returns c = simp (sym (c .before .named-codes .ensures), c .if1 .taken)
+
 mask-requires : tie.Need-mask-requires
 mask-requires c κs = search needs
 
-add-result : tie.Need-add-result
-add-result c =
-    omega (
-      arith,
-      ap ones (c .mask .ensures) ∙ ones-turned-on (c .before .args .c),
-      four-at-most (c .before .args .c),
-    )
+add-waits : tie.Need-add-waits
+add-waits c =
+    let config = c .before .before .before .args .c in
+    omega (arith, ap ones (c .mask .ensures) ∙ ones-turned-on config, four-at-most config)
 
-returns : tie.Need-returns
-unfolding waitsOwed
-returns c = ap (λ (n : ℕ). 4 + n) (ap ones (c .mask .ensures))
+returns-2 : tie.Need-returns-2
+unfolding waitsOwedOf
+returns-2 c = simp (sym (c .before .before .named-codes .ensures), c .before .if1 .left, c .mask .ensures)
 
 pub waits-owed-spec : {M : Type 1} → statement M
-waits-owed-spec = tie.close (tie.spec mask-requires add-result returns)
+waits-owed-spec = tie.close (tie.spec named-codes-requires returns mask-requires add-waits returns-2)

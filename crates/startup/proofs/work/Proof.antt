@@ -1,5 +1,4 @@
 use mathlib.Core.Path.{_∙_}
-use Prim.Native.Nat.{_-_}
 use borrow.Author.Needs.{needs}
 use Rattle.startup.proofs.Cases.{place, wrote-step, wait-step, read-step, compare-step, no-step}
 use Rattle.startup.proofs.work.Statement.{statement}
@@ -17,9 +16,9 @@ enum-known-written c = search needs
 onward-requires : tie.Need-onward-requires
 onward-requires c κs =
     let args = c .before .before .before .before .before .before .before .args in
-    let seen-of = c .before .before .before .before .seen-of in
-    let perform = c .before .before .before .perform in
-    place 1000000 (args .s) (args .reading) (args .promised) (seen-of .ensures) (perform .ensures) (c .before .written .given .1) tt .1
+    let seen = c .before .before .before .before .seen-of .ensures in
+    let did = c .before .before .before .perform .ensures in
+    place 1000000 (args .s) (args .reading) (args .promised) seen did (c .before .written .given .1) tt .1
 
 enum-known-met : tie.Need-enum-known-met
 enum-known-met c = search needs
@@ -32,9 +31,11 @@ waited-requires c κs =
     let at-met = c .before .before in
     let at-perform = at-met .before .before in
     let at-seen-of = at-perform .before in
-    let args = at-seen-of .before .before .before .args in
     let at-pre = at-seen-of .before .before .before in
-    (place 1000000 (args .s) (args .reading) (args .promised) (at-seen-of .seen-of .ensures) (at-perform .perform .ensures) (at-met .met .given .1) tt .1, at-pre .pre)
+    let args = at-pre .args in
+    let seen = at-seen-of .seen-of .ensures in
+    let did = at-perform .perform .ensures in
+    (place 1000000 (args .s) (args .reading) (args .promised) seen did (at-met .met .given .1) tt .1, at-pre .pre)
 
 enum-known-mode : tie.Need-enum-known-mode
 enum-known-mode c = search needs
@@ -47,9 +48,11 @@ read-back-requires c κs =
     let at-mode = c .before .before .before in
     let at-perform = at-mode .before .before in
     let at-seen-of = at-perform .before in
-    let args = at-seen-of .before .before .before .args in
     let at-pre = at-seen-of .before .before .before in
-    (place 1000000 (args .s) (args .reading) (args .promised) (at-seen-of .seen-of .ensures) (at-perform .perform .ensures) (at-mode .mode .given .1) tt .1, at-pre .pre)
+    let args = at-pre .args in
+    let seen = at-seen-of .seen-of .ensures in
+    let did = at-perform .perform .ensures in
+    (place 1000000 (args .s) (args .reading) (args .promised) seen did (at-mode .mode .given .1) tt .1, at-pre .pre)
 
 enum-known-same : tie.Need-enum-known-same
 enum-known-same c = search needs
@@ -69,8 +72,10 @@ returns c =
     let at-perform = at-written .before .before in
     let at-seen-of = at-perform .before in
     let args = at-seen-of .before .before .before .args in
+    let seen = at-seen-of .seen-of .ensures in
+    let did = at-perform .perform .ensures in
     (c .onward .ensures) (args .promised) ∙
-    wrote-step 1000000 (args .s) (args .reading) (args .promised) (at-seen-of .seen-of .ensures) (at-perform .perform .ensures) (at-written .written .given .1)
+    wrote-step 1000000 (args .s) (args .reading) (args .promised) seen did (at-written .written .given .1)
 
 returns-2 : tie.Need-returns-2
 returns-2 c =
@@ -78,8 +83,10 @@ returns-2 c =
     let at-perform = at-met .before .before in
     let at-seen-of = at-perform .before in
     let args = at-seen-of .before .before .before .args in
+    let seen = at-seen-of .seen-of .ensures in
+    let did = at-perform .perform .ensures in
     (c .waited .ensures) (args .promised) ∙
-    wait-step 1000000 (args .s) (args .reading) (args .promised) (at-seen-of .seen-of .ensures) (at-perform .perform .ensures) (c .before .seeing .ensures) (at-met .met .given .1)
+    wait-step 1000000 (args .s) (args .reading) (args .promised) seen did (c .before .seeing .ensures) (at-met .met .given .1)
 
 returns-3 : tie.Need-returns-3
 returns-3 c =
@@ -88,8 +95,10 @@ returns-3 c =
     let at-perform = at-mode .before .before in
     let at-seen-of = at-perform .before in
     let args = at-seen-of .before .before .before .args in
+    let seen = at-seen-of .seen-of .ensures in
+    let did = at-perform .perform .ensures in
     (c .read-back .ensures) (args .promised) ∙
-    read-step 1000000 (args .s) (args .reading) (args .promised) (at-seen-of .seen-of .ensures) (at-perform .perform .ensures) (at-seeing2 .seeing2 .ensures) (at-mode .mode .given .1)
+    read-step 1000000 (args .s) (args .reading) (args .promised) seen did (at-seeing2 .seeing2 .ensures) (at-mode .mode .given .1)
 
 returns-4 : tie.Need-returns-4
 returns-4 c =
@@ -97,16 +106,18 @@ returns-4 c =
     let at-perform = at-same .before .before in
     let at-seen-of = at-perform .before in
     let args = at-seen-of .before .before .before .args in
+    let seen = at-seen-of .seen-of .ensures in
+    let did = at-perform .perform .ensures in
     (c .compared .ensures) ∙
-    compare-step 1000000 (args .s) (args .reading) (args .promised) (at-seen-of .seen-of .ensures) (at-perform .perform .ensures) (at-same .same .given .1)
+    compare-step 1000000 (args .s) (args .reading) (args .promised) seen did (at-same .same .given .1)
 
 returns-5 : tie.Need-returns-5
 returns-5 c =
     let args = c .before .before .before .before .before .before .before .args in
-    let seen-of = c .before .before .before .before .seen-of in
-    let perform = c .before .before .before .perform in
+    let seen = c .before .before .before .before .seen-of .ensures in
+    let did = c .before .before .before .perform .ensures in
     (c .handed-back .ensures) ∙
-    no-step 1000000 (args .s) (args .reading) (args .promised) (seen-of .ensures) (perform .ensures) (c .before .enum-told .given .1)
+    no-step 1000000 (args .s) (args .reading) (args .promised) seen did (c .before .enum-told .given .1)
 
 pub work-spec : {M : Type 1} → statement M
 work-spec =

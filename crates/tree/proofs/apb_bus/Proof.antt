@@ -1,9 +1,9 @@
-use mathlib.Core.Path.{sym}
+use mathlib.Core.Path.{_≡_, sym}
 use Prim.Native.Nat.{_≤_}
 use native.Mathlib.Omega.{arith}
 use borrow.Author.Needs.{needs}
 use borrow.Author.Tests.{ne-eqb, eq-eqb}
-use Rattle.answer.specs.Answer.{told}
+use Rattle.answer.specs.Answer.{gives, told}
 use Rattle.answer.specs.Said.{replied}
 use Rattle.divider.specs.Laws.{apb-given, by-apb-twice}
 use Rattle.tree.specs.Tree.{busOf, timerClock}
@@ -57,18 +57,25 @@ returns-2 c =
       told replied (by-apb .ensures) (c .before .enum-told2 .given .1),
     )
 
-returns-3 : tie.Need-returns-3
-unfolding busOf timerClock
-returns-3 c =
-    let at-divided = c .before .before in
-    let at-by-apb = at-divided .before .before in
+-- what the definition leaves to do where the bus is divided: its timers' clock
+from-divided : (c : tie.After-divided)
+    → let at-divisor = c .before .before .before .before in
+    let args = at-divisor .before .before .before .args in
+    let pclk = c .divided .given .0 .0 in
+    busOf (args .family) (args .hclk) (args .code) ≡ gives (pclk, timerClock (args .family) (at-divisor .divisor .given .0 .0) pclk)
+unfolding busOf
+from-divided c =
+    let at-by-apb = c .before .before in
     let at-divisor = at-by-apb .before .before in
     let at-apb = at-divisor .before .before in
     simp (
       told replied (at-apb .apb .ensures) (at-divisor .divisor .given .1),
-      told replied (at-by-apb .by-apb .ensures) (at-divided .divided .given .1),
-      eq-eqb _ _ (c .if1 .taken),
+      told replied (at-by-apb .by-apb .ensures) (c .divided .given .1),
     )
+
+returns-3 : tie.Need-returns-3
+unfolding timerClock
+returns-3 c = simp (from-divided (c .before .before), eq-eqb _ _ (c .if1 .taken))
 
 doubling-requires : tie.Need-doubling-requires
 doubling-requires c κs = search needs
@@ -82,45 +89,23 @@ mul-t13 c =
     let at-apb = at-divisor .before .before in
     let args = at-apb .before .args in
     let at-fits = at-apb .before in
-    let one : 1 ≤ (at-divisor .divisor .given .0 .0) = apb-given (args .code) (told replied (at-apb .apb .ensures) (at-divisor .divisor .given .1)) .low in
+    let by = told replied (at-apb .apb .ensures) (at-divisor .divisor .given .1) in
+    let quotient = told replied (at-by-apb .by-apb .ensures) (at-divided .divided .given .1) in
+    let one : 1 ≤ (at-divisor .divisor .given .0 .0) = apb-given (args .code) by .low in
     let two : 2 ≤ (at-divisor .divisor .given .0 .0) = omega (arith, at-if1 .if1 .left, one) in
-    omega (
-      arith,
-      by-apb-twice (args .hclk) (args .code) (told replied (at-apb .apb .ensures) (at-divisor .divisor .given .1)) (told replied (at-by-apb .by-apb .ensures) (at-divided .divided .given .1)) two,
-      at-fits .fits .hclk,
-    )
+    omega (arith, by-apb-twice (args .hclk) (args .code) by quotient two, at-fits .fits .hclk)
 
 returns-4 : tie.Need-returns-4
-unfolding busOf timerClock
+unfolding timerClock
 returns-4 c =
     let at-if1 = c .before .before in
-    let at-divided = at-if1 .before .before in
-    let at-by-apb = at-divided .before .before in
-    let at-divisor = at-by-apb .before .before in
-    let at-apb = at-divisor .before .before in
-    simp (
-      told replied (at-apb .apb .ensures) (at-divisor .divisor .given .1),
-      told replied (at-by-apb .by-apb .ensures) (at-divided .divided .given .1),
-      ne-eqb _ _ (at-if1 .if1 .left),
-      sym (c .before .doubling .ensures),
-      c .if2 .taken,
-    )
+    simp (from-divided (at-if1 .before .before), ne-eqb _ _ (at-if1 .if1 .left), sym (c .before .doubling .ensures), c .if2 .taken)
 
 returns-5 : tie.Need-returns-5
-unfolding busOf timerClock
+unfolding timerClock
 returns-5 c =
     let at-if1 = c .before .before in
-    let at-divided = at-if1 .before .before in
-    let at-by-apb = at-divided .before .before in
-    let at-divisor = at-by-apb .before .before in
-    let at-apb = at-divisor .before .before in
-    simp (
-      told replied (at-apb .apb .ensures) (at-divisor .divisor .given .1),
-      told replied (at-by-apb .by-apb .ensures) (at-divided .divided .given .1),
-      ne-eqb _ _ (at-if1 .if1 .left),
-      sym (c .before .doubling .ensures),
-      c .if2 .left,
-    )
+    simp (from-divided (at-if1 .before .before), ne-eqb _ _ (at-if1 .if1 .left), sym (c .before .doubling .ensures), c .if2 .left)
 
 pub apb-bus-spec : {M : Type 1} → statement M
 apb-bus-spec =

@@ -1,6 +1,7 @@
-use mathlib.Core.Path.{sym}
+use mathlib.Core.Path.{_≡_, sym}
+use mathlib.Core.Bool.{not}
 use borrow.Author.Needs.{needs}
-use Rattle.answer.specs.Answer.{told}
+use Rattle.answer.specs.Answer.{refuse, told}
 use Rattle.answer.specs.Said.{replied}
 use Rattle.v30x.specs.V30x.{usbhsOf}
 use Rattle.v30x.proofs.usbhs.Statement.{statement}
@@ -38,35 +39,26 @@ returns-2 c =
     let from = c .before .before .before .from in
     simp (hspll .given .1, told replied (from .ensures) (c .before .n .given .1))
 
-returns-3 : tie.Need-returns-3
+-- what the definition leaves to do where the reference is tested
+from-test : (c : tie.After-reference-allowed)
+    → let args = c .before .before .before .before .before .before .before .before .before .args in
+    usbhsOf (args .hse) (args .source) (args .hspll) ≡ refuse 8 (not (c .reference-allowed .result))
 unfolding usbhsOf
-returns-3 c =
-    let at-by-one-more = c .before .before in
-    let at-hz = at-by-one-more .before .before in
+from-test c =
+    let at-hz = c .before .before .before in
     let at-from = at-hz .before .before in
-    let at-hspll = at-from .before .before in
     simp (
-      at-hspll .hspll .given .1,
+      at-from .before .before .hspll .given .1,
       told replied (at-from .from .ensures) (at-hz .hz .given .1),
-      sym (at-by-one-more .by-one-more .ensures),
-      sym (c .before .reference-allowed .ensures),
-      c .if1 .taken,
+      sym (c .before .by-one-more .ensures),
+      sym (c .reference-allowed .ensures),
     )
 
+returns-3 : tie.Need-returns-3
+returns-3 c = simp (from-test (c .before), c .if1 .taken)
+
 returns-4 : tie.Need-returns-4
-unfolding usbhsOf
-returns-4 c =
-    let at-by-one-more = c .before .before in
-    let at-hz = at-by-one-more .before .before in
-    let at-from = at-hz .before .before in
-    let at-hspll = at-from .before .before in
-    simp (
-      at-hspll .hspll .given .1,
-      told replied (at-from .from .ensures) (at-hz .hz .given .1),
-      sym (at-by-one-more .by-one-more .ensures),
-      sym (c .before .reference-allowed .ensures),
-      c .if1 .left,
-    )
+returns-4 c = simp (from-test (c .before), c .if1 .left)
 
 pub usbhs-spec : {M : Type 1} → statement M
 usbhs-spec =

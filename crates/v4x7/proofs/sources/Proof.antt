@@ -1,7 +1,8 @@
+use mathlib.Core.Path.{_≡_}
 use borrow.Author.Needs.{needs}
-use Rattle.answer.specs.Answer.{told}
+use Rattle.answer.specs.Answer.{gives, _>>_, told}
 use Rattle.answer.specs.Said.{replied, done}
-use Rattle.v4x7.specs.Check.{sourcesOf}
+use Rattle.v4x7.specs.Check.{sourcesOf, ethOf, usbHsOf}
 use Rattle.v4x7.proofs.sources.Statement.{statement}
 use Rattle.v4x7.proofs.sources.Tie as tie
 
@@ -62,18 +63,16 @@ returns-3 c =
       told replied (at-main-pll .main-pll .ensures) (c .enum-told3 .given .1),
     )
 
-eth-requires : tie.Need-eth-requires
-eth-requires c κs = search needs
-
-enum-known-n-3 : tie.Need-enum-known-n-3
-enum-known-n-3 c = search needs
-
-returns-4 : tie.Need-returns-4
+-- what the definition leaves to do where the main PLL's output is known
+from-main : (c : tie.After-main)
+    → let config = c .before .before .before .before .before .before .before .before .before .args .c in
+    sourcesOf config ≡ (do
+      ethOf (config .hse) (config .ethpll)
+      usbHsOf (config .hse) (config .ethpll) (config .hspll)
+      gives (c .main .given .0 .0))
 unfolding sourcesOf
-returns-4 c =
-    let at-eth = c .before .before .before in
-    let at-main = at-eth .before .before in
-    let at-main-pll = at-main .before .before in
+from-main c =
+    let at-main-pll = c .before .before in
     let at-enum-told2 = at-main-pll .before in
     let at-hse-present = at-enum-told2 .before .before in
     let at-enum-told = at-hse-present .before in
@@ -81,7 +80,20 @@ returns-4 c =
     simp (
       told done (at-rng .rng .ensures) (at-enum-told .enum-told .given .1),
       told done (at-hse-present .hse-present .ensures) (at-enum-told2 .enum-told2 .given .1),
-      told replied (at-main-pll .main-pll .ensures) (at-main .main .given .1),
+      told replied (at-main-pll .main-pll .ensures) (c .main .given .1),
+    )
+
+eth-requires : tie.Need-eth-requires
+eth-requires c κs = search needs
+
+enum-known-n-3 : tie.Need-enum-known-n-3
+enum-known-n-3 c = search needs
+
+returns-4 : tie.Need-returns-4
+returns-4 c =
+    let at-eth = c .before .before .before in
+    simp (
+      from-main (at-eth .before .before),
       told done (at-eth .eth .ensures) (c .before .n3 .given .1),
     )
 
@@ -95,21 +107,12 @@ enum-known-n-4 : tie.Need-enum-known-n-4
 enum-known-n-4 c = search needs
 
 returns-5 : tie.Need-returns-5
-unfolding sourcesOf
 returns-5 c =
     let at-usbhs = c .before .before .before in
     let at-enum-told4 = at-usbhs .before in
     let at-eth = at-enum-told4 .before .before in
-    let at-main = at-eth .before .before in
-    let at-main-pll = at-main .before .before in
-    let at-enum-told2 = at-main-pll .before in
-    let at-hse-present = at-enum-told2 .before .before in
-    let at-enum-told = at-hse-present .before in
-    let at-rng = at-enum-told .before .before in
     simp (
-      told done (at-rng .rng .ensures) (at-enum-told .enum-told .given .1),
-      told done (at-hse-present .hse-present .ensures) (at-enum-told2 .enum-told2 .given .1),
-      told replied (at-main-pll .main-pll .ensures) (at-main .main .given .1),
+      from-main (at-eth .before .before),
       told done (at-eth .eth .ensures) (at-enum-told4 .enum-told4 .given .1),
       told done (at-usbhs .usbhs .ensures) (c .before .n4 .given .1),
     )
@@ -118,21 +121,12 @@ enum-told-5 : tie.Need-enum-told-5
 enum-told-5 c = search needs
 
 returns-6 : tie.Need-returns-6
-unfolding sourcesOf
 returns-6 c =
     let at-usbhs = c .before .before in
     let at-enum-told4 = at-usbhs .before in
     let at-eth = at-enum-told4 .before .before in
-    let at-main = at-eth .before .before in
-    let at-main-pll = at-main .before .before in
-    let at-enum-told2 = at-main-pll .before in
-    let at-hse-present = at-enum-told2 .before .before in
-    let at-enum-told = at-hse-present .before in
-    let at-rng = at-enum-told .before .before in
     simp (
-      told done (at-rng .rng .ensures) (at-enum-told .enum-told .given .1),
-      told done (at-hse-present .hse-present .ensures) (at-enum-told2 .enum-told2 .given .1),
-      told replied (at-main-pll .main-pll .ensures) (at-main .main .given .1),
+      from-main (at-eth .before .before),
       told done (at-eth .eth .ensures) (at-enum-told4 .enum-told4 .given .1),
       told done (at-usbhs .usbhs .ensures) (c .enum-told5 .given .1),
     )

@@ -1,9 +1,10 @@
-use mathlib.Core.Path.{sym}
+use mathlib.Core.Path.{_≡_, sym}
+use mathlib.Core.Bool.{_||_}
 use native.Mathlib.Omega.{arith}
 use borrow.Author.Needs.{needs}
 use borrow.Author.Tests.{le-leb, lt-leb, ltb-false}
 use lib.Dec.{ltb}
-use Rattle.answer.specs.Answer.{told}
+use Rattle.answer.specs.Answer.{gives, refuse, _>>_, told}
 use Rattle.answer.specs.Said.{replied}
 use Rattle.divider.specs.Facts.{neither}
 use Rattle.v4x7_rules.specs.Rules.{mainPllOf}
@@ -40,38 +41,33 @@ array-read-product c = search needs
 product-requires : tie.Need-product-requires
 product-requires c κs = search needs
 
-returns-3 : tie.Need-returns-3
+-- what the definition leaves to do where the output is known
+from-product : (c : tie.After-product)
+    → let args = c .before .before .before .before .before .before .args in
+    let out = c .product .result in
+    mainPllOf (replied (args .hse)) (args .source) (args .mul) ≡ (do
+      refuse 5 (ltb out 100000000 || ltb 400000000 out)
+      gives out)
 unfolding mainPllOf
-returns-3 c =
-    let if1 = c .before .before .before .before .before .before .if1 in
-    let pll-input = c .before .before .before .before .before .pll-input in
-    let input = c .before .before .before .input in
+from-product c =
+    let at-input = c .before .before in
+    let at-pll-input = at-input .before .before in
     simp (
-      lt-leb _ _ (if1 .left),
-      told replied (pll-input .ensures) (input .given .1),
-      sym (c .before .product .ensures),
-      c .if2 .taken,
+      lt-leb _ _ (at-pll-input .before .if1 .left),
+      told replied (at-pll-input .pll-input .ensures) (at-input .input .given .1),
+      sym (c .product .ensures),
     )
+
+returns-3 : tie.Need-returns-3
+returns-3 c = simp (from-product (c .before), c .if2 .taken)
 
 cast-t15 : tie.Need-cast-t15
 cast-t15 c =
-    omega (
-      arith,
-      ltb-false 400000000 (c .before .product .result) (neither (ltb (c .before .product .result) 100000000) (ltb 400000000 (c .before .product .result)) (c .if2 .left) .1),
-    )
+    let out = c .before .product .result in
+    omega (arith, ltb-false 400000000 out (neither (ltb out 100000000) (ltb 400000000 out) (c .if2 .left) .1))
 
 returns-4 : tie.Need-returns-4
-unfolding mainPllOf
-returns-4 c =
-    let if1 = c .before .before .before .before .before .before .if1 in
-    let pll-input = c .before .before .before .before .before .pll-input in
-    let input = c .before .before .before .input in
-    simp (
-      lt-leb _ _ (if1 .left),
-      told replied (pll-input .ensures) (input .given .1),
-      sym (c .before .product .ensures),
-      c .if2 .left,
-    )
+returns-4 c = simp (from-product (c .before), c .if2 .left)
 
 pub main-pll-spec : {M : Type 1} → statement M
 main-pll-spec =

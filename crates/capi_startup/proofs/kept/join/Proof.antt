@@ -103,7 +103,12 @@ array-read-t102 : tie.Need-array-read-t102
 array-read-t102 c = search needs
 
 returns : tie.Need-returns
-returns c = let a : length (c .args .t1) ≡ 10 = omega arith in let b : length (c .args .t2) ≡ 8 = omega arith in let d : length (c .args .t3) ≡ 14 = omega arith in joined (c .args .t1) (c .args .t2) (c .args .t3) a b d
+returns c =
+    let args = c .args in
+    let a : length (args .t1) ≡ 10 = omega arith in
+    let b : length (args .t2) ≡ 8 = omega arith in
+    let d : length (args .t3) ≡ 14 = omega arith in
+    joined (args .t1) (args .t2) (args .t3) a b d
 
 pub join-spec : {M : Type 1} → statement M
 join-spec =

@@ -12,7 +12,10 @@ use Rattle.capi_startup.proofs.kept.kept.Statement.{statement}
 use Rattle.capi_startup.proofs.kept.kept.Tie as tie
 
 slice-aggregate-read-profile : tie.Need-slice-aggregate-read-profile
-slice-aggregate-read-profile c = let h : 10 ≤ length (c .before .before .args .place .now) = omega arith in sym (length-take-le 10 (c .before .before .args .place .now) h)
+slice-aggregate-read-profile c =
+    let now = c .before .before .args .place .now in
+    let h : 10 ≤ length now = omega arith in
+    sym (length-take-le 10 now h)
 
 read-profile-requires : tie.Need-read-profile-requires
 read-profile-requires c κs = search needs
@@ -54,8 +57,10 @@ returns-2 c =
     let at-read-image = c .before .before .before in
     let at-config = at-read-image .before .before .before in
     let at-read-profile = at-config .before .before in
-    simp
-    (told profileRead (at-read-profile .read-profile .ensures) (at-config .config .given .1), told imageRead (at-read-image .read-image .ensures) (c .before .n2 .given .1))
+    simp (
+      told profileRead (at-read-profile .read-profile .ensures) (at-config .config .given .1),
+      told imageRead (at-read-image .read-image .ensures) (c .before .n2 .given .1),
+    )
 
 returns-3 : tie.Need-returns-3
 unfolding keptOf
@@ -64,9 +69,10 @@ returns-3 c =
     let at-read-image = at-fields .before .before in
     let at-config = at-read-image .before .before .before in
     let at-read-profile = at-config .before .before in
-    simp
-    (told profileRead (at-read-profile .read-profile .ensures) (at-config .config .given .1), told imageRead (at-read-image .read-image .ensures) (at-fields .fields .given .1))
-    (ap gives (c .standing .ensures))
+    simp (
+      told profileRead (at-read-profile .read-profile .ensures) (at-config .config .given .1),
+      told imageRead (at-read-image .read-image .ensures) (at-fields .fields .given .1),
+    ) (ap gives (c .standing .ensures))
 
 pub kept-spec : {M : Type 1} → statement M
 kept-spec =

@@ -3,7 +3,8 @@ use mathlib.Core.Path.{_∙_}
 use borrow.Author.Needs.{needs}
 use borrow.Author.Tests.{ltb-false}
 use Rattle.steps.specs.Steps.{steps, from, listedOf}
-use Rattle.startup.proofs.Cases.{call-code, call-by, call-over, call-off, call-on, or-right}
+use Rattle.divider.specs.Facts.{neither}
+use Rattle.startup.proofs.Cases.{call-code, call-by, call-over, call-off, call-on}
 use Rattle.startup.proofs.Startup.step.Statement.{statement}
 use Rattle.startup.proofs.Startup.step.Tie as tie
 
@@ -80,7 +81,7 @@ returns-4 c =
 work-requires : tie.Need-work-requires
 work-requires c κs =
     let at-listed = c .before .before in
-    ltb-false _ _ (or-right (not (at-listed .listed .result)) _ (c .if2 .left))
+    ltb-false _ _ (neither (not (at-listed .listed .result)) _ (c .if2 .left) .1)
 
 returns-5 : tie.Need-returns-5
 unfolding listedOf

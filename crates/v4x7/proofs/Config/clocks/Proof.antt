@@ -1,9 +1,10 @@
-use mathlib.Core.Path.{sym}
+use mathlib.Core.Path.{_≡_, sym}
 use borrow.Author.Needs.{needs}
-use Rattle.answer.specs.Answer.{told}
+use Rattle.answer.specs.Answer.{gives, _>>=_, told}
 use Rattle.answer.specs.Said.{replied}
 use Rattle.tree.specs.Tree.{running}
-use Rattle.v4x7.specs.Check.{checkOf}
+use Rattle.v4x7_rules.specs.Rules.{busesOf}
+use Rattle.v4x7.specs.Check.{checkOf, adcOf}
 use Rattle.v4x7.proofs.Config.clocks.Statement.{statement}
 use Rattle.v4x7.proofs.Config.clocks.Tie as tie
 
@@ -69,6 +70,27 @@ returns-3 c =
       told replied (at-sysclk .sysclk .ensures) (c .before .enum-told2 .given .1),
     )
 
+-- what the definition leaves to do where the system clock is known
+from-system : (c : tie.After-system)
+    → let self = c .before .before .before .before .before .before .before .before .before .args .self in
+    let sys = c .system .given .0 .0 in
+    checkOf self ≡ (do
+      clocks ← busesOf sys (self .«ahb_pre») (self .«apb1_pre») (self .«apb2_pre»)
+      adc ← adcOf sys self
+      gives (clocks, adc))
+unfolding checkOf
+from-system c =
+    let at-sysclk = c .before .before in
+    let at-sourced = at-sysclk .before .before in
+    let at-sources = at-sourced .before .before in
+    let at-if1 = at-sources .before in
+    simp (
+      sym (at-if1 .before .named-codes .ensures),
+      at-if1 .if1 .left,
+      told replied (at-sources .sources .ensures) (at-sourced .sourced .given .1),
+      told replied (at-sysclk .sysclk .ensures) (c .system .given .1),
+    )
+
 bus-clocks-requires : tie.Need-bus-clocks-requires
 bus-clocks-requires c κs = search needs
 
@@ -91,22 +113,12 @@ refusal-requires-3 : tie.Need-refusal-requires-3
 refusal-requires-3 c κs = search needs
 
 returns-4 : tie.Need-returns-4
-unfolding checkOf
 returns-4 c =
     let at-adc = c .before .before .before in
     let at-clocks = at-adc .before .before in
     let at-bus-clocks = at-clocks .before .before in
-    let at-system = at-bus-clocks .before .before in
-    let at-sysclk = at-system .before .before in
-    let at-sourced = at-sysclk .before .before in
-    let at-sources = at-sourced .before .before in
-    let at-if1 = at-sources .before in
-    let at-named-codes = at-if1 .before in
     simp (
-      sym (at-named-codes .named-codes .ensures),
-      at-if1 .if1 .left,
-      told replied (at-sources .sources .ensures) (at-sourced .sourced .given .1),
-      told replied (at-sysclk .sysclk .ensures) (at-system .system .given .1),
+      from-system (at-bus-clocks .before .before),
       told running (at-bus-clocks .bus-clocks .ensures) (at-clocks .clocks .given .1),
       c .refusal3 .ensures,
       c .before .enum-told3 .given .1,
@@ -114,40 +126,20 @@ returns-4 c =
     )
 
 returns-5 : tie.Need-returns-5
-unfolding checkOf
 returns-5 c =
     let at-bus-clocks = c .before .before .before in
-    let at-system = at-bus-clocks .before .before in
-    let at-sysclk = at-system .before .before in
-    let at-sourced = at-sysclk .before .before in
-    let at-sources = at-sourced .before .before in
-    let at-if1 = at-sources .before in
-    let at-named-codes = at-if1 .before in
     simp (
-      sym (at-named-codes .named-codes .ensures),
-      at-if1 .if1 .left,
-      told replied (at-sources .sources .ensures) (at-sourced .sourced .given .1),
-      told replied (at-sysclk .sysclk .ensures) (at-system .system .given .1),
+      from-system (at-bus-clocks .before .before),
       told running (at-bus-clocks .bus-clocks .ensures) (c .before .n .given .1),
     )
 
 returns-6 : tie.Need-returns-6
-unfolding checkOf
 returns-6 c =
     let at-adc = c .before .before .before in
     let at-clocks = at-adc .before .before in
     let at-bus-clocks = at-clocks .before .before in
-    let at-system = at-bus-clocks .before .before in
-    let at-sysclk = at-system .before .before in
-    let at-sourced = at-sysclk .before .before in
-    let at-sources = at-sourced .before .before in
-    let at-if1 = at-sources .before in
-    let at-named-codes = at-if1 .before in
     simp (
-      sym (at-named-codes .named-codes .ensures),
-      at-if1 .if1 .left,
-      told replied (at-sources .sources .ensures) (at-sourced .sourced .given .1),
-      told replied (at-sysclk .sysclk .ensures) (at-system .system .given .1),
+      from-system (at-bus-clocks .before .before),
       told running (at-bus-clocks .bus-clocks .ensures) (at-clocks .clocks .given .1),
       told replied (at-adc .adc .ensures) (c .before .sampled .given .1),
     )
