@@ -3,6 +3,7 @@
 ghost use Prim.Native.Nat.{_<_};
 use answer::Reply;
 use image::Fields;
+use image::ReadImage;
 use image::Seen;
 use profile::ReadProfile;
 use startup::Phase;
@@ -11,52 +12,12 @@ use startup::Report;
 use startup::Started;
 use startup::Startup;
 
-// The registers as a reset leaves them, for this program: all fields zero.
-fn cleared() -> Fields {
-    Fields {
-        ctlr: image::Ctlr {
-            hsion: false,
-            hsebyp: false,
-            hseon: false,
-            csson: false,
-            pllon: false,
-            usbhs_pllon: false,
-            eth_pllon: false,
-        },
-        seen: Seen {
-            hsirdy: false,
-            hserdy: false,
-            pllrdy: false,
-            usbhs_pllrdy: false,
-            eth_pllrdy: false,
-            sws: 0,
-        },
-        cfgr0: image::Cfgr0 {
-            sw: 0,
-            pllsrc: false,
-            pllmul: 0,
-            hpre: 0,
-            ppre1: 0,
-            ppre2: 0,
-            adcpre: 0,
-            adcsrc: false,
-            adc_duty: 0,
-        },
-        cfgr2: image::Cfgr2 {
-            usbhspllsrc: 0,
-            usbhspllclk: 0,
-            syspllsrc: 0,
-            sysplldiv: 0,
-            syspll_gate: false,
-            rngsrc: false,
-            i2spllsrc: false,
-        },
-        cfgr3: image::Cfgr3 { adc_clkdiv: 0 },
-        flash: image::Flash {
-            sckmod: 0,
-            lock: false,
-            flock: false,
-        },
+// A startup over registers as a reset leaves them, for this program: all fields zero.
+fn started(config: v4x7::Config) -> Started {
+    let reset = [0u8; 8];
+    match image::read_image(&reset) {
+        ReadImage::Refused(n) => Started::NotStarted(n),
+        ReadImage::Image(earlier) => Startup::start(config, earlier),
     }
 }
 
@@ -189,7 +150,7 @@ fn print_image(f: Fields) {
 
 // One startup, and its line.
 fn powered(config: v4x7::Config, failing: u8) {
-    match Startup::start(config, cleared()) {
+    match started(config) {
         Started::NotStarted(n) => {
             print(b"not started ");
             io::print_decimal(1, n as u64);
