@@ -1,3 +1,4 @@
 pub mod Answer
 pub mod Said
 pub mod Tests
+pub mod Numbers

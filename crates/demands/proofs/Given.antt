@@ -1,0 +1,178 @@
+-- Each number of the first demand's lists is given: an input for each, and its definition computed.
+-- Assumes nothing.
+use Prim.Native.Nat.{ℕ}
+use mathlib.Core.Path.{_≡_, refl}
+use mathlib.Core.Bool.{Bool, true, false}
+use mathlib.Core.List.{List, [], _∷_, map}
+use native.Mathlib.Omega.{arith}
+use Rattle.answer.specs.Answer.{Answer, gives, refuses}
+use Rattle.divider.specs.Divide.{ahbOf, ahbDivisor, ahbDivisors, apbOf, apbDivisor, byAhbOf, byApbOf}
+use Rattle.tree.specs.Tree.{clocksOf, belowOf, busOf, timerClock}
+use Rattle.v4x7_rules.specs.Rules.{hseOf, mainPllOf, ethPllOf, referenceCodeOf, sysPllOf, busesOf, adcFromHclkOf, adcFromUsbHsOf, totalOf}
+use Rattle.v4x7_rules.specs.declared.HseFrequency.{HseFrequency}
+use Rattle.v4x7_rules.specs.declared.HseFrequency.the-variants as frequency
+use Rattle.v4x7.specs.declared.Config.{Config}
+use Rattle.v4x7.specs.declared.Hse.{Hse}
+use Rattle.v4x7.specs.declared.Hse.the-variants as hse
+use Rattle.v4x7.specs.declared.Pll.{Pll}
+use Rattle.v4x7.specs.declared.Pll.the-variants as pll
+use Rattle.v4x7.specs.declared.HsPll.{HsPll}
+use Rattle.v4x7.specs.declared.HsPll.the-variants as hspll
+use Rattle.v4x7.specs.declared.AdcClockSource.{AdcClockSource}
+use Rattle.v4x7.specs.declared.AdcClockSource.the-variants as adc
+use Rattle.v4x7.specs.Check.{named, rngOf, hsePresentOf, mainOf, ethOf, referenceOf, usbHsOf, sourcesOf, inputOf, sysclkOf}
+use Rattle.v4x7.specs.Check.{adcRatioOf, limitsOf, adcOf, checkOf}
+use Rattle.layout.specs.Bits.{bitsAt}
+use Rattle.profile.specs.Profile as profile
+use Rattle.image.specs.declared.Fields.{Fields}
+use Rattle.image.specs.Image as image
+use Rattle.decoder.specs.Decode.{usedOf, usbHsReferenceOf, usbHsPllOf, selectedOf, inUseOf, decodeOf}
+use Rattle.decoder.specs.Queries.{adcQueryOf, rngQueryOf}
+use Rattle.startup.specs.Call.{startOf, going}
+use Rattle.demands.specs.First.{Refusing, EachGiven, writeOf, wide, decodeNumbers, checkGiven}
+use Rattle.demands.proofs.First.{stays}
+
+pub by : {I A : Type 0} {of : I → Answer A} {n : ℕ} (i : I) → of i ≡ refuses n → Refusing of n
+by i e = record { input = i; number = e }
+
+-- an input for each number
+pub by-row : {I A : Type 0} (of : I → Answer A) (inputs : List I) (l : List ℕ) → map of inputs ≡ map refuses l → EachGiven of l
+by-row of [] [] e = tt
+by-row of (i ∷ is) (n ∷ l) e = (by i (cc e), by-row of is l (cc e))
+by-row of [] (n ∷ l) e = absurd (let z : _≡_ {A = ℕ} 0 1 = cc in omega arith)
+by-row of (i ∷ is) [] e = absurd (let z : _≡_ {A = ℕ} 0 1 = cc in omega arith)
+
+-- where one call refuses as another does
+pub each-from : {I J A B : Type 0} (of : I → Answer A) (other : J → Answer B) → ((n : ℕ) → Refusing of n → Refusing other n) → (l : List ℕ) →
+    EachGiven of l → EachGiven other l
+each-from of other h [] e = tt
+each-from of other h (n ∷ l) e = (h n (e .0), each-from of other h l (e .1))
+
+-- a configuration: HSE, system clock, PLL source, PLL, SYSPLL source, USBHS PLL, ETH PLL, RNG, ADC source; all prescalers at 1, the ADC's at 8
+abbrev setup : Hse → ℕ → ℕ → Pll → ℕ → HsPll → Bool → ℕ → AdcClockSource → Config
+setup h sys source p syspll usbhs eth rng ad =
+    record {
+      hse = h;
+      sys = sys;
+      «pll_src» = source;
+      pll = p;
+      «syspll_src» = syspll;
+      «syspll_pre» = 0;
+      hspll = usbhs;
+      ethpll = eth;
+      «ahb_pre» = 0;
+      «apb1_pre» = 0;
+      «apb2_pre» = 0;
+      «rng_src» = rng;
+      «adc_src» = ad;
+      «adc_pre» = 3;
+      «adc_duty» = 0;
+    }
+
+abbrev xtal : ℕ → Hse
+xtal hz = hse.Present false hz
+
+pub checks : EachGiven checkOf checkGiven
+unfolding checkOf named sourcesOf rngOf hsePresentOf hseOf mainOf mainPllOf ethOf ethPllOf usbHsOf referenceOf referenceCodeOf sysclkOf inputOf
+    sysPllOf busesOf clocksOf belowOf busOf timerClock adcOf adcRatioOf limitsOf adcFromHclkOf adcFromUsbHsOf totalOf ahbOf ahbDivisor
+    ahbDivisors apbOf apbDivisor byAhbOf byApbOf
+checks =
+    let inputs : List Config =
+    setup hse.Absent 3 0 pll.Absent 0 hspll.Absent false 0 adc.Hclk
+    ∷ setup hse.Absent 0 0 pll.Absent 0 hspll.Absent false 1 adc.Hclk
+    ∷ setup hse.Absent 0 0 pll.Absent 0 hspll.Absent false 2 adc.Hclk
+    ∷ setup (xtal 4999999) 0 0 pll.Absent 0 hspll.Absent false 0 adc.Hclk
+    ∷ setup hse.Absent 0 1 (pll.Mul 0) 0 hspll.Absent false 0 adc.Hclk
+    ∷ setup hse.Absent 0 0 (pll.Mul 31) 0 hspll.Absent false 0 adc.Hclk
+    ∷ setup (xtal 24000000) 0 0 pll.Absent 0 hspll.Absent true 0 adc.Hclk
+    ∷ setup hse.Absent 0 0 pll.Absent 0 (hspll.From 2) false 0 adc.Hclk
+    ∷ setup (xtal 10000000) 0 0 pll.Absent 0 (hspll.From 0) false 0 adc.Hclk
+    ∷ setup hse.Absent 2 0 pll.Absent 6 hspll.Absent false 0 adc.Hclk
+    ∷ setup hse.Absent 2 0 pll.Absent 0 hspll.Absent false 0 adc.Hclk
+    ∷ setup hse.Absent 2 0 pll.Absent 1 hspll.Absent false 0 adc.Hclk
+    ∷ setup hse.Absent 2 0 pll.Absent 0 (hspll.From 1) false 0 adc.Hclk
+    ∷ setup hse.Absent 0 0 pll.Absent 0 hspll.Absent false 0 (adc.UsbHsPll 8)
+    ∷ setup hse.Absent 0 0 pll.Absent 0 (hspll.From 1) false 0 (adc.UsbHsPll 0)
+    ∷ setup hse.Absent 0 0 pll.Absent 0 (hspll.From 1) false 0 (adc.UsbHsPll 1)
+    ∷ [] in
+    by-row checkOf inputs checkGiven refl
+
+-- fields: SWS, PLLSRC, PLLMUL, USBHSPLLSRC, USBHSPLLCLK, SYSPLLSRC; the rest clear
+abbrev fields : ℕ → Bool → ℕ → ℕ → ℕ → ℕ → Fields
+fields sws pllsrc pllmul usbhssrc usbhsclk syspllsrc =
+    record {
+      ctlr = record { hsion = false; hsebyp = false; hseon = false; csson = false; pllon = false; «usbhs_pllon» = false; «eth_pllon» = false };
+      seen = record { hsirdy = false; hserdy = false; pllrdy = false; «usbhs_pllrdy» = false; «eth_pllrdy» = false; sws = sws };
+      cfgr0 = record { sw = 0; pllsrc = pllsrc; pllmul = pllmul; hpre = 0; ppre1 = 0; ppre2 = 0; adcpre = 0; adcsrc = false; «adc_duty» = 0 };
+      cfgr2 =
+          record {
+            usbhspllsrc = usbhssrc;
+            usbhspllclk = usbhsclk;
+            syspllsrc = syspllsrc;
+            sysplldiv = 0;
+            «syspll_gate» = false;
+            rngsrc = false;
+            i2spllsrc = false;
+          };
+      cfgr3 = record { «adc_clkdiv» = 0 };
+      flash = record { sckmod = 0; lock = false; flock = false };
+    }
+
+pub decodes : EachGiven (λ (x : Fields × HseFrequency). decodeOf (x .0) (x .1)) decodeNumbers
+unfolding decodeOf image.inWidths inUseOf usedOf selectedOf usbHsPllOf usbHsReferenceOf hseOf mainPllOf ethPllOf referenceCodeOf sysPllOf busesOf
+    clocksOf belowOf busOf timerClock ahbOf ahbDivisor ahbDivisors apbOf apbDivisor byAhbOf byApbOf
+decodes =
+    let inputs : List (Fields × HseFrequency) =
+    (fields 4 false 0 0 0 0, frequency.Absent)
+    ∷ (fields 1 false 0 0 0 0, frequency.Absent)
+    ∷ (fields 1 false 0 0 0 0, frequency.Hz 4999999)
+    ∷ (fields 3 false 0 0 0 0, frequency.Absent)
+    ∷ (fields 2 false 0 0 0 1, frequency.Hz 24000000)
+    ∷ (fields 2 false 0 3 0 0, frequency.Absent)
+    ∷ (fields 2 false 0 0 0 0, frequency.Hz 10000000)
+    ∷ (fields 2 false 0 1 0 0, frequency.Absent)
+    ∷ (fields 2 false 31 0 0 6, frequency.Absent)
+    ∷ (fields 2 false 0 0 0 4, frequency.Absent)
+    ∷ (fields 2 false 0 1 1 0, frequency.Absent)
+    ∷ [] in
+    by-row (λ x. decodeOf (x .0) (x .1)) inputs decodeNumbers refl
+
+pub read-profiles : EachGiven profile.readProfile (29 ∷ 30 ∷ [])
+unfolding profile.readProfile profile.tests profile.rawOf profile.hseFields profile.pllFields profile.busFields profile.adcFields
+    bitsAt
+read-profiles = (by [] refl, (by (0 ∷ 0 ∷ 0 ∷ 0 ∷ 0 ∷ 0 ∷ 0 ∷ 0 ∷ 0 ∷ 1 ∷ []) refl, tt))
+
+pub read-images : EachGiven image.readImage (31 ∷ [])
+unfolding image.readImage
+read-images = (by [] refl, tt)
+
+abbrev eight : List ℕ
+eight = 0 ∷ 0 ∷ 0 ∷ 0 ∷ 0 ∷ 0 ∷ 0 ∷ 0 ∷ []
+
+pub write-profiles : EachGiven (λ (x : Config × List ℕ). writeOf 10 (profile.profileBytes (x .0)) (x .1)) (32 ∷ 30 ∷ [])
+unfolding profile.profileBytes profile.writable profile.tests profile.restOf profile.rawFrom
+write-profiles = (
+  by (setup hse.Absent 0 0 pll.Absent 0 hspll.Absent false 0 adc.Hclk, []) refl,
+  (by (setup hse.Absent 3 0 pll.Absent 0 hspll.Absent false 0 adc.Hclk, 0 ∷ 0 ∷ eight) refl, tt),
+)
+
+pub write-images : EachGiven (λ (x : Fields × List ℕ). writeOf 8 (image.imageBytes (x .0)) (x .1)) (32 ∷ 28 ∷ [])
+unfolding image.imageBytes image.inWidths
+write-images = (by (fields 0 false 0 0 0 0, []) refl, (by (fields 4 false 0 0 0 0, eight) refl, tt))
+
+pub adc-queries : EachGiven (λ (x : Fields × ℕ). adcQueryOf (x .0) (x .1)) wide
+unfolding adcQueryOf image.inWidths
+adc-queries = (by (fields 4 false 0 0 0 0, 0) refl, tt)
+
+pub rng-queries : EachGiven (λ (x : Fields × ℕ). rngQueryOf (x .0) (x .1)) wide
+unfolding rngQueryOf image.inWidths
+rng-queries = (by (fields 4 false 0 0 0 0, 0) refl, tt)
+
+start-from : (n : ℕ) → Refusing checkOf n → Refusing (λ (x : Config × Fields). startOf (x .0) (x .1)) n
+unfolding startOf image.inWidths
+start-from n r =
+    let clear = fields 0 false 0 0 0 0 in
+    by (r .input, clear) (stays n (checkOf (r .input)) (gives (going (r .input) clear 1 0 0)) (r .number))
+
+pub starts : EachGiven (λ (x : Config × Fields). startOf (x .0) (x .1)) checkGiven
+starts = each-from checkOf (λ (x : Config × Fields). startOf (x .0) (x .1)) start-from checkGiven checks
