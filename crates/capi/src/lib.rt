@@ -58,8 +58,8 @@ fn decode(from: &[u8], hz: u32) -> Buses
     }
 }
 
-// Decodes an image of eight bytes, with HSE's frequency; 0 says that there is none. Gives six words: SYSCLK, HCLK, PCLK1, PCLK2, their timers' clocks.
-// Refused by 32, 31, then by the decoder's numbers.
+// Decodes an image of eight bytes, with HSE's frequency; 0 says that there is none. Gives six words: SYSCLK, HCLK, PCLK1, PCLK2, their timers'
+// clocks. Refused by 32, 31, then by the decoder's numbers.
 #[no_mangle]
 pub extern "C" fn wontabeli_decode(from: &[u8], hz: u32, out: &mut [u32]) -> u8
     ensures { λ r. ⌜ Given 6 (sixWords (decodeRead (now (from .entry)) hz)) (now (out .entry)) (now (out .exit)) r ⌝ }

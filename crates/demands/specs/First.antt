@@ -180,8 +180,8 @@ pub record Demand1 : Type 1 where
   -- and a startup answered 28 is handed back as it was
   pub handed-back : (s : Startup) (r : Reading) → stepOf s r .report ≡ report.Refused 28 → stepOf s r .startup ≡ s
 
--- The lists of the families' calls are no longer than they have to be: each number is given to some input. 16 is left out (docs/DECISIONS.md): document
--- 01 lists it, and nothing here says that it is given, or that it isn't.
+-- The lists of the families' calls are no longer than they have to be: each number is given to some input. 16 is left out (docs/DECISIONS.md):
+-- document 01 lists it, and nothing here says that it is given, or that it isn't.
 
 pub record Refusing {I A : Type 0} (of : I → Answer A) (n : ℕ) : Type 0 where
   pub input : I
