@@ -76,6 +76,11 @@ static void profiles(void)
     IS(wontabeli_check(p, 11, out, 7), WONTABELI_PROFILE_LENGTH);
     IS(wontabeli_call_bound(p, 9, out), WONTABELI_PROFILE_LENGTH);
     IS(out[0], 7000020);
+    /* the same with the main PLL from HSI and the USBHS PLL from HSE: .. 10 0 1 00101 110 000 1 00 0 .. */
+    f[WONTABELI_PROFILE_PLL_SOURCE] = f[WONTABELI_PROFILE_USBHS_SOURCE] = 0;
+    IS(wontabeli_write_profile(f, sizeof f, p, sizeof p), 0);
+    SAME(p, 0x80, 0x1e, 0x84, 0x80, 0x24, 0xb8, 0x44, 0x58, 0x44, 0x18, 0xee);
+    f[WONTABELI_PROFILE_PLL_SOURCE] = f[WONTABELI_PROFILE_USBHS_SOURCE] = 1;
     f[WONTABELI_PROFILE_FILLING] = 1;
     IS(wontabeli_write_profile(f, sizeof f, p, sizeof p), WONTABELI_PROFILE_CODE);
     f[WONTABELI_PROFILE_FILLING] = 0;
@@ -96,8 +101,17 @@ static void profiles(void)
 
 static void images(void)
 {
+    static const struct { uint8_t field, width; } list[WONTABELI_IMAGE_FIELDS] = {
+        {WONTABELI_IMAGE_HSION, 1}, {WONTABELI_IMAGE_HSEBYP, 1}, {WONTABELI_IMAGE_HSEON, 1}, {WONTABELI_IMAGE_CSSON, 1}, {WONTABELI_IMAGE_PLLON, 1},
+        {WONTABELI_IMAGE_USBHS_PLLON, 1}, {WONTABELI_IMAGE_ETH_PLLON, 1}, {WONTABELI_IMAGE_HSIRDY, 1}, {WONTABELI_IMAGE_HSERDY, 1},
+        {WONTABELI_IMAGE_PLLRDY, 1}, {WONTABELI_IMAGE_USBHS_PLLRDY, 1}, {WONTABELI_IMAGE_ETH_PLLRDY, 1}, {WONTABELI_IMAGE_SWS, 2},
+        {WONTABELI_IMAGE_SW, 2}, {WONTABELI_IMAGE_PLLSRC, 1}, {WONTABELI_IMAGE_PLLMUL, 5}, {WONTABELI_IMAGE_HPRE, 4}, {WONTABELI_IMAGE_PPRE1, 3},
+        {WONTABELI_IMAGE_PPRE2, 3}, {WONTABELI_IMAGE_ADCPRE, 2}, {WONTABELI_IMAGE_ADCSRC, 1}, {WONTABELI_IMAGE_ADC_DUTY, 2},
+        {WONTABELI_IMAGE_USBHSPLLSRC, 2}, {WONTABELI_IMAGE_USBHSPLLCLK, 2}, {WONTABELI_IMAGE_SYSPLLSRC, 3}, {WONTABELI_IMAGE_SYSPLLDIV, 3},
+        {WONTABELI_IMAGE_SYSPLL_GATE, 1}, {WONTABELI_IMAGE_RNGSRC, 1}, {WONTABELI_IMAGE_I2SPLLSRC, 1}, {WONTABELI_IMAGE_ADC_CLKDIV, 5},
+        {WONTABELI_IMAGE_SCKMOD, 2}, {WONTABELI_IMAGE_LOCK, 1}, {WONTABELI_IMAGE_FLOCK, 1}, {WONTABELI_IMAGE_FILLING, 0}};
     uint8_t f[WONTABELI_IMAGE_FIELDS] = {0}, g[WONTABELI_IMAGE_FIELDS], i[WONTABELI_IMAGE_SIZE];
-    int n;
+    int n, place = 0;
     /* each field at its place: HSION is the first bit of all, FLOCK the sixth from the end */
     f[WONTABELI_IMAGE_HSION] = f[WONTABELI_IMAGE_HSEON] = f[WONTABELI_IMAGE_ETH_PLLON] = f[WONTABELI_IMAGE_PLLRDY] = 1;
     f[WONTABELI_IMAGE_SWS] = 1;
@@ -145,13 +159,17 @@ static void images(void)
     IS(out[1], 750000);
     i[7] |= 1;
     IS(wontabeli_decode(i, 8, 12000000, out, 6), WONTABELI_IMAGE_LENGTH_OR_FILLING);
-    /* each field alone, to its greatest code and one beyond */
+    /* each field alone, to its greatest code, and one beyond: document 01's list */
     for (n = 0; n < WONTABELI_IMAGE_FIELDS; n++) {
-        static const uint8_t most[WONTABELI_IMAGE_FIELDS] = {1, 1, 1, 1, 1, 1, 1, 1, 1, 1, 1, 1, 3, 3, 1, 31, 15, 7, 7, 3, 1, 3, 3, 3, 7, 7, 1, 1, 1, 31, 3, 1, 1, 0};
+        uint8_t wanted[WONTABELI_IMAGE_SIZE] = {0};
+        int end = place + list[n].width;
         memset(f, 0, sizeof f);
-        f[n] = most[n];
+        f[list[n].field] = (uint8_t)((1 << list[n].width) - 1);
+        for (; place < end; place++)
+            wanted[place / 8] |= 0x80 >> place % 8;
         IS(wontabeli_write_image(f, sizeof f, i, sizeof i), 0);
-        f[n]++;
+        IS(memcmp(i, wanted, sizeof i), 0);
+        f[list[n].field]++;
         IS(wontabeli_write_image(f, sizeof f, i, sizeof i), WONTABELI_CODE_NOT_ALLOWED);
     }
 }
@@ -198,26 +216,28 @@ static void families(void)
     IS(wontabeli_v1_check(WONTABELI_V1_PART_V1, c, sizeof c, out, 7), 0);
     clocks(__LINE__, 36000000, 36000000, 18000000, 36000000, 36000000, 36000000);
     IS(out[WONTABELI_MORE], 0);
-    IS(wontabeli_v1_init_fields(0, c, sizeof c, f, sizeof f, f, 7), WONTABELI_OUTPUT_TOO_SHORT);
+    IS(wontabeli_v1_init_fields(WONTABELI_V1_PART_V1, c, sizeof c, f, sizeof f, f, 7), WONTABELI_OUTPUT_TOO_SHORT);
     c[9] = 0;
-    IS(wontabeli_v1_check(1, c, sizeof c, out, 7), 0);
+    IS(wontabeli_v1_check(WONTABELI_V1_PART_L1, c, sizeof c, out, 7), 0);
     IS(out[WONTABELI_SYSCLK], 72000000);
     IS(out[WONTABELI_MORE], 3);
     c[9] = 1;
     {
         uint8_t h[WONTABELI_V1_FIELDS_SIZE];
-        IS(wontabeli_v1_init_fields(0, c, sizeof c, f, sizeof f, h, sizeof h), 0);
+        IS(wontabeli_v1_init_fields(WONTABELI_V1_PART_V1, c, sizeof c, f, sizeof f, h, sizeof h), 0);
         SAME(h, 2, 1, 1, 7, 0, 4, 0, 1);
-        IS(wontabeli_v1_decode(0, h, sizeof h, 8000000, out, 6), 0);
+        IS(wontabeli_v1_decode(WONTABELI_V1_PART_V1, h, sizeof h, 8000000, out, 6), 0);
         clocks(__LINE__, 36000000, 36000000, 18000000, 36000000, 36000000, 36000000);
-        IS(wontabeli_v1_decode(0, h, sizeof h, 0, out, 6), WONTABELI_HSE_MISSING);
+        IS(wontabeli_v1_decode(WONTABELI_V1_PART_V1, h, sizeof h, 0, out, 6), WONTABELI_HSE_MISSING);
         /* code 15: V1 by 16, L1 by 18 */
         h[3] = 15;
-        IS(wontabeli_v1_decode(1, h, sizeof h, 8000000, out, 6), 0);
+        IS(wontabeli_v1_decode(WONTABELI_V1_PART_V1, h, sizeof h, 8000000, out, 6), 0);
+        IS(out[WONTABELI_SYSCLK], 64000000);
+        IS(wontabeli_v1_decode(WONTABELI_V1_PART_L1, h, sizeof h, 8000000, out, 6), 0);
         IS(out[WONTABELI_SYSCLK], 72000000);
     }
     IS(wontabeli_v1_check(2, c, sizeof c, out, 7), WONTABELI_CODE_NOT_ALLOWED);
-    IS(wontabeli_v1_check(0, c, 13, out, 7), WONTABELI_CODE_NOT_ALLOWED);
+    IS(wontabeli_v1_check(WONTABELI_V1_PART_V1, c, 13, out, 7), WONTABELI_CODE_NOT_ALLOWED);
     /* V30x: HSE 8 MHz by 2 times 18 is 72 MHz, AHB by 2, APB2 by 2; USBHS from HSE by 2 is 4 MHz */
     IS(wontabeli_v30x_check(d, sizeof d, out, 7), 0);
     clocks(__LINE__, 72000000, 36000000, 36000000, 18000000, 36000000, 36000000);

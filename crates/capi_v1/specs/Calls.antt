@@ -34,7 +34,7 @@ takenFields (fields.Refused n) = refuses n
 
 -- the part: 0 V1, 1 L1
 abbrev pub chipOf : ℕ → Chip
-chipOf part = cond (eqb part 1) chip.L1 chip.V1
+chipOf part = cond (eqb part 0) chip.V1 chip.L1
 
 abbrev pub pllOf : Bool → Bool → ℕ → Pll
 pllOf present halved mul = cond present (cond halved (pll.Present prediv.Div2 mul) (pll.Present prediv.Div1 mul)) pll.Absent

@@ -39,10 +39,10 @@ pub enum TakenFields {
 fn chip(part: u8) -> Chip
     ensures { λ r. ⌜ r ≡ chipOf part ⌝ }
 {
-    if part == V1_PART_L1 {
-        Chip::L1
-    } else {
+    if part == V1_PART_V1 {
         Chip::V1
+    } else {
+        Chip::L1
     }
 }
 
