@@ -22,7 +22,7 @@ fn hse_of(present: u8, bypass: u8, freq: u32) -> Hse {
 
 // HSE as a configuration has it, from byte 1 on.
 fn config_hse(q: &[u8; 128]) -> Hse {
-    hse_of(q[1], q[2], query::word(q[3], q[4], q[5], q[6]))
+    hse_of(q[1], q[2], query::word(q, 3))
 }
 
 fn source(code: u8) -> Source {
@@ -97,8 +97,19 @@ fn v1_written(kind: u8, answer: v1::Written) -> [u8; 64] {
 }
 
 fn v1_decoded(kind: u8, chip: Chip, q: &[u8; 128]) -> [u8; 64] {
-    let hse = hse_of(q[9], 0, query::word(q[10], q[11], q[12], q[13]));
+    let hse = hse_of(q[9], 0, query::word(q, 10));
     reply::run(kind, v1::decode(chip, v1_fields(query::part(q, 1)), hse))
+}
+
+fn v1_answer(chip: Chip, kind: u8, q: &[u8; 128]) -> [u8; 64] {
+    match kind % 8 {
+        0 => checked(kind, v1::check(chip, v1_config(q))),
+        1 => v1_written(
+            kind,
+            v1::init_fields(chip, v1_config(q), v1_fields(query::part(q, 15))),
+        ),
+        _ => v1_decoded(kind, chip, q),
+    }
 }
 
 fn pll_source(code: u8) -> PllSource {
@@ -175,7 +186,7 @@ fn v30x_written(answer: v30x::Written) -> [u8; 64] {
 }
 
 fn v30x_decoded(q: &[u8; 128]) -> [u8; 64] {
-    let hse = hse_of(q[10], 0, query::word(q[11], q[12], q[13], q[14]));
+    let hse = hse_of(q[10], 0, query::word(q, 11));
     reply::run(0x22, v30x::decode(v30x_fields(query::part(q, 1)), hse))
 }
 
@@ -187,7 +198,7 @@ fn replied(kind: u8, answer: Reply) -> [u8; 64] {
 }
 
 fn h4(kind: u8, q: &[u8; 128]) -> [u8; 64] {
-    let hz = query::word(q[1], q[2], q[3], q[4]);
+    let hz = query::word(q, 1);
     match kind {
         0x30 => replied(kind, h4::ahb_from_sysclk(hz, q[5])),
         0x31 => reply::word(reply::empty(kind, 0), 2, h4::hclk_from_ahb(hz, q[5])),
@@ -206,18 +217,8 @@ fn h4(kind: u8, q: &[u8; 128]) -> [u8; 64] {
 
 pub fn answer(kind: u8, q: &[u8; 128]) -> [u8; 64] {
     match kind {
-        0x10 => checked(kind, v1::check(Chip::V1, v1_config(q))),
-        0x11 => v1_written(
-            kind,
-            v1::init_fields(Chip::V1, v1_config(q), v1_fields(query::part(q, 15))),
-        ),
-        0x12 => v1_decoded(kind, Chip::V1, q),
-        0x18 => checked(kind, v1::check(Chip::L1, v1_config(q))),
-        0x19 => v1_written(
-            kind,
-            v1::init_fields(Chip::L1, v1_config(q), v1_fields(query::part(q, 15))),
-        ),
-        0x1a => v1_decoded(kind, Chip::L1, q),
+        0x10..=0x12 => v1_answer(Chip::V1, kind, q),
+        0x18..=0x1a => v1_answer(Chip::L1, kind, q),
         0x20 => checked(kind, v30x::check(v30x_config(q))),
         0x21 => v30x_written(v30x::init_fields(v30x_config(q), v30x_fields(query::part(q, 19)))),
         0x22 => v30x_decoded(q),

@@ -27,13 +27,12 @@ struct Run {
     keyed: u32,
 }
 
-// The count of a segment; 0 past the last.
+// The count of a segment, three bytes; 0 past the last.
 fn count(q: &[u8; 128], segment: usize) -> u32 {
     if 13 <= segment {
         return 0;
     }
-    let at = 61 + segment * 5;
-    query::word(0, q[at], q[at + 1], q[at + 2])
+    query::word(q, 60 + segment * 5) % 0x100_0000
 }
 
 // On to the next segment where this one is used up and another follows.
@@ -196,8 +195,8 @@ fn repeated(q: &[u8; 128], r: Run) -> Run {
 fn put_image(a: [u8; 64], fields: Fields) -> [u8; 64] {
     let mut bytes = [0u8; 8];
     image::write_image(fields, &mut bytes);
-    let high = query::word(bytes[0], bytes[1], bytes[2], bytes[3]);
-    let low = query::word(bytes[4], bytes[5], bytes[6], bytes[7]);
+    let high = query::word_of(bytes[0], bytes[1], bytes[2], bytes[3]);
+    let low = query::word_of(bytes[4], bytes[5], bytes[6], bytes[7]);
     reply::word(reply::word(a, 12, high), 16, low)
 }
 
@@ -251,24 +250,28 @@ fn told(kind: u8, r: Run) -> [u8; 64] {
     )
 }
 
-fn run_of(startup: Startup) -> Run {
+// At the script's first reading.
+fn run_of(startup: Startup, report: Report, calls: u32, keyed: u32) -> Run {
     Run {
         startup,
-        report: Report::Worked { step: 0, used: 0 },
+        report,
         cursor: Cursor {
             segment: 0,
             taken: 0,
         },
-        calls: 0,
-        keyed: 0,
+        calls,
+        keyed,
     }
 }
 
 pub fn startup(q: &[u8; 128]) -> [u8; 64] {
-    let limit = query::word(q[57], q[58], q[59], q[60]);
+    let limit = query::word(q, 57);
     match Startup::start(query::config(q), query::fields(q, 24)) {
         Started::NotStarted(n) => reply::empty(5, n),
-        Started::Begun(begun) => told(5, repeated(q, played(q, run_of(begun), limit))),
+        Started::Begun(begun) => {
+            let first = run_of(begun, Report::Worked { step: 0, used: 0 }, 0, 0);
+            told(5, repeated(q, played(q, first, limit)))
+        }
     }
 }
 
@@ -287,33 +290,25 @@ fn put_handed_back(a: [u8; 64], startup: Startup) -> [u8; 64] {
     )
 }
 
-// One call of a startup that is not over.
-pub fn call(q: &[u8; 128]) -> [u8; 64] {
-    let config = query::config(q);
-    let fields = query::fields(q, 24);
-    let as_it_stands = Startup {
-        config,
-        fields,
+// A startup that is not over, as it stands in the query.
+fn handed_in(q: &[u8; 128]) -> Startup {
+    Startup {
+        config: query::config(q),
+        fields: query::fields(q, 24),
         step: q[57],
-        unmet: query::word(q[58], q[59], q[60], q[61]),
-        used: query::word(q[62], q[63], q[64], q[65]),
+        unmet: query::word(q, 58),
+        used: query::word(q, 62),
         phase: Phase::Going,
-    };
-    let stepped = as_it_stands.step(query::reading(q[66], q[67]));
+    }
+}
+
+// One call of it.
+pub fn call(q: &[u8; 128]) -> [u8; 64] {
+    let stepped = handed_in(q).step(query::reading(q[66], q[67]));
     let after = stepped.startup;
     let report = stepped.report;
     let keyed = if step_named(report) == 19 { 1 } else { 0 };
-    let run = Run {
-        startup: after,
-        report,
-        cursor: Cursor {
-            segment: 0,
-            taken: 0,
-        },
-        calls: 1,
-        keyed,
-    };
-    let a = told(6, run);
+    let a = told(6, run_of(after, report, 1, keyed));
     if number_of(report) == answer::CODE_NOT_ALLOWED {
         return put_handed_back(a, after);
     }

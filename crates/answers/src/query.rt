@@ -35,8 +35,16 @@ fn wide(x: u8) -> u32
 }
 
 // A number of four bytes.
-pub fn word(a: u8, b: u8, c: u8, d: u8) -> u32 {
+pub fn word_of(a: u8, b: u8, c: u8, d: u8) -> u32 {
     wide(a) * 16777216 + wide(b) * 65536 + wide(c) * 256 + wide(d)
+}
+
+// The number at a place; 0 where it would end past the query.
+pub fn word(q: &[u8; 128], at: usize) -> u32 {
+    if 124 < at {
+        return 0;
+    }
+    word_of(q[at], q[at + 1], q[at + 2], q[at + 3])
 }
 
 fn hse_of(x: [u8; 33]) -> Hse {
@@ -45,7 +53,7 @@ fn hse_of(x: [u8; 33]) -> Hse {
     }
     Hse::Present {
         bypass: x[1] != 0,
-        freq: word(x[2], x[3], x[4], x[5]),
+        freq: word_of(x[2], x[3], x[4], x[5]),
     }
 }
 

@@ -14,7 +14,7 @@ pub fn check(q: &[u8; 128]) -> [u8; 64] {
 }
 
 pub fn decode(q: &[u8; 128]) -> [u8; 64] {
-    let hse = query::frequency(q[34], query::word(q[35], q[36], q[37], q[38]));
+    let hse = query::frequency(q[34], query::word(q, 35));
     reply::run(2, decoder::decode(query::fields(q, 1), hse))
 }
 
@@ -27,12 +27,12 @@ fn queried(kind: u8, answer: Query) -> [u8; 64] {
 }
 
 pub fn adc(q: &[u8; 128]) -> [u8; 64] {
-    let sysclk = query::word(q[34], q[35], q[36], q[37]);
+    let sysclk = query::word(q, 34);
     queried(3, decoder::adc_frequency(query::fields(q, 1), sysclk))
 }
 
 pub fn rng(q: &[u8; 128]) -> [u8; 64] {
-    let sysclk = query::word(q[34], q[35], q[36], q[37]);
+    let sysclk = query::word(q, 34);
     queried(
         4,
         decoder::rng_source_frequency(query::fields(q, 1), sysclk),
