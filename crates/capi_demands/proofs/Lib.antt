@@ -4,3 +4,4 @@ pub mod Lists
 pub mod Stays
 pub mod Going
 pub mod Hosted
+pub mod First

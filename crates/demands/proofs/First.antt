@@ -75,7 +75,7 @@ itself : (n : ℕ) (a b : Bool) → (a || (eqb n n || b)) ≡ true
 itself n true b = refl
 itself n false b = let e = eq-eqb n n refl in simp e
 
-behind : (a : Bool) → (a || true) ≡ true
+pub behind : (a : Bool) → (a || true) ≡ true
 behind true = refl
 behind false = refl
 
