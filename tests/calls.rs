@@ -151,6 +151,7 @@ fn families() {
     assert_eq!(fields, [2, 1, 1, 7, 0, 4, 0, 1]);
     assert_eq!(v1::decode(v1::Part::V1, &fields, hz), Ok(run));
     let whole = v1::Config { pll: Some(v1::Pll { halved: false, mul: 15 }), ..config };
+    assert_eq!(v1::check(v1::Part::V1, &whole).map(|x| x.clocks.sysclk), Ok(128_000_000));
     assert_eq!(v1::check(v1::Part::L1, &whole).map(|x| x.clocks.sysclk), Ok(144_000_000));
     // 8 MHz x 9 is 72 MHz, by 1.5
     let usb = v1::Config { pll: Some(v1::Pll { halved: false, mul: 7 }), ..config };

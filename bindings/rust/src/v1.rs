@@ -1,6 +1,6 @@
 //! CH32V1 and CH32L1.
 use crate::calls::{wontabeli_v1_check, wontabeli_v1_decode, wontabeli_v1_init_fields};
-use crate::numbers::{CHECK_WORDS, CLOCKS_WORDS, V1_CONFIG_SIZE, V1_FIELDS_SIZE};
+use crate::numbers::{CHECK_WORDS, CLOCKS_WORDS, V1_CONFIG_SIZE, V1_FIELDS_SIZE, V1_PART_L1, V1_PART_V1};
 use crate::{hertz, lay_hse, result, Clocks, Hse, Refusal};
 use core::num::NonZeroU32;
 
@@ -10,8 +10,8 @@ pub use crate::usb::Checked;
 #[derive(Clone, Copy, Debug, PartialEq, Eq)]
 #[repr(u8)]
 pub enum Part {
-    V1 = 0,
-    L1 = 1,
+    V1 = V1_PART_V1,
+    L1 = V1_PART_L1,
 }
 
 /// The PLL: whether its input is halved, and the multiplier's code.
