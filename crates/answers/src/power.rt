@@ -72,34 +72,6 @@ fn used(report: Report, startup: Startup) -> u32 {
     }
 }
 
-fn step_named(report: Report) -> u8 {
-    match report {
-        Report::Worked { step, used: _ } => step,
-        Report::Waiting { step, used: _ } => step,
-        Report::Running { step, used: _ } => step,
-        Report::Failed {
-            number: _,
-            step,
-            used: _,
-        } => step,
-        Report::Refused(_) => 0,
-    }
-}
-
-fn number_of(report: Report) -> u8 {
-    match report {
-        Report::Worked { step: _, used: _ } => 0,
-        Report::Waiting { step: _, used: _ } => 0,
-        Report::Running { step: _, used: _ } => 0,
-        Report::Failed {
-            number,
-            step: _,
-            used: _,
-        } => number,
-        Report::Refused(n) => n,
-    }
-}
-
 // 0 not over, 1 over and running, 2 over by a refusal.
 fn over(startup: Startup) -> u8 {
     let phase = startup.phase;
@@ -137,7 +109,7 @@ fn advanced(q: &[u8; 128], r: Run) -> Run {
         taken = one_more(cursor.taken);
     }
     let mut keyed = r.keyed;
-    if step_named(report) == 19 {
+    if startup::named_step(report) == 19 {
         keyed = one_more(r.keyed);
     }
     Run {
@@ -242,7 +214,11 @@ fn told(kind: u8, r: Run) -> [u8; 64] {
     let startup = r.startup;
     let report = r.report;
     let fields = startup.fields;
-    let a = reply::byte(reply::empty(kind, number_of(report)), 2, step_named(report));
+    let a = reply::byte(
+        reply::empty(kind, startup::number(report)),
+        2,
+        startup::named_step(report),
+    );
     let b = reply::word(reply::byte(a, 3, over(startup)), 4, used(report, startup));
     put_keys(
         put_decoded(put_image(reply::word(b, 8, r.calls), fields), startup),
@@ -307,9 +283,13 @@ pub fn call(q: &[u8; 128]) -> [u8; 64] {
     let stepped = handed_in(q).step(query::reading(q[66], q[67]));
     let after = stepped.startup;
     let report = stepped.report;
-    let keyed = if step_named(report) == 19 { 1 } else { 0 };
+    let keyed = if startup::named_step(report) == 19 {
+        1
+    } else {
+        0
+    };
     let a = told(6, run_of(after, report, 1, keyed));
-    if number_of(report) == answer::CODE_NOT_ALLOWED {
+    if startup::number(report) == answer::CODE_NOT_ALLOWED {
         return put_handed_back(a, after);
     }
     a

@@ -3,7 +3,7 @@ ghost use mathlib.Core.Path.{_≡_};
 ghost use mathlib.Core.List.{_++_};
 ghost use Prim.Native.Nat.{_≤_};
 ghost use lib.ListN.{length};
-ghost use Rattle.startup.specs.Call.{begun, numberOf, namedStep};
+ghost use Rattle.startup.specs.Call.{begun};
 ghost use Rattle.lent.specs.Given.{Given};
 ghost use Rattle.capi_startup.specs.Kept.{phaseOf, lastTag, tagOf, wentOf, standingOf, keptOf, tailOf, placeOf};
 use crate::FAILED;
@@ -28,6 +28,8 @@ use startup::Report;
 use startup::Started;
 use startup::Startup;
 use startup::Stepped;
+use startup::named_step;
+use startup::number;
 use v4x7::Config;
 
 // A phase by its byte: 0 going, 1 running, 21 to 23 how it failed. No starting leads to any other.
@@ -94,40 +96,6 @@ fn went(report: Report) -> u8
             used: _,
         } => FAILED,
         Report::Refused(_) => FAILED,
-    }
-}
-
-// The refusal number of a report, or 0.
-pub fn number(report: Report) -> u8
-    ensures { λ r. ⌜ r ≡ numberOf report ⌝ }
-{
-    match report {
-        Report::Worked { step: _, used: _ } => 0,
-        Report::Waiting { step: _, used: _ } => 0,
-        Report::Running { step: _, used: _ } => 0,
-        Report::Failed {
-            number,
-            step: _,
-            used: _,
-        } => number,
-        Report::Refused(n) => n,
-    }
-}
-
-// The step that a report names, or 0.
-fn named(report: Report) -> u8
-    ensures { λ r. ⌜ r ≡ namedStep report ⌝ }
-{
-    match report {
-        Report::Worked { step, used: _ } => step,
-        Report::Waiting { step, used: _ } => step,
-        Report::Running { step, used: _ } => step,
-        Report::Failed {
-            number: _,
-            step,
-            used: _,
-        } => step,
-        Report::Refused(_) => 0,
     }
 }
 
@@ -226,7 +194,7 @@ fn tail(x: Stepped) -> [u8; 14]
     ];
     t[PLACE_WENT - PLACE_STEP] = went(report);
     t[PLACE_NUMBER - PLACE_STEP] = number(report);
-    t[PLACE_NAMED - PLACE_STEP] = named(report);
+    t[PLACE_NAMED - PLACE_STEP] = named_step(report);
     t
 }
 

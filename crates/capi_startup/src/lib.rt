@@ -10,7 +10,6 @@ ghost use Rattle.capi_startup.specs.Calls.{readingOf, startRead, startBy
 use image::ReadImage;
 use image::Seen;
 use kept::kept;
-use kept::number;
 use kept::store;
 use profile::ReadProfile;
 use startup::Reading;
@@ -18,6 +17,7 @@ use startup::Report;
 use startup::Started;
 use startup::Startup;
 use startup::Stepped;
+use startup::number;
 
 // A place's bytes. Its first ten are the profile.
 pub const PLACE_SIZE: usize = 32;

@@ -8,7 +8,7 @@ ghost use Rattle.answer.specs.Said.{replied};
 ghost use Rattle.tree.specs.declared.Clocks.{Clocks};
 ghost use Rattle.steps.specs.Writes.{withSeen};
 ghost use Rattle.steps.specs.Steps.{steps, from};
-ghost use Rattle.startup.specs.Call.{seenOf, ended, handedBack, moved, unmetOf, waitedOf, readBackOf, comparedOf, worksIn, stepOf, startOf, begun, nextOf, maskOf, waitsOwedOf, callBoundOf, keyOf};
+ghost use Rattle.startup.specs.Call.{numberOf, namedStep, seenOf, ended, handedBack, moved, unmetOf, waitedOf, readBackOf, comparedOf, worksIn, stepOf, startOf, begun, nextOf, maskOf, waitsOwedOf, callBoundOf, keyOf};
 use answer::Reply;
 use image::Fields;
 use image::Seen;
@@ -42,6 +42,40 @@ pub enum Report {
     Failed { number: u8, step: u8, used: u32 },
     // Over, the clocks differing (23); or handed back as it was (28).
     Refused(u8),
+}
+
+// The refusal number of a report, or 0.
+pub fn number(report: Report) -> u8
+    ensures { λ r. ⌜ r ≡ numberOf report ⌝ }
+{
+    match report {
+        Report::Worked { step: _, used: _ } => 0,
+        Report::Waiting { step: _, used: _ } => 0,
+        Report::Running { step: _, used: _ } => 0,
+        Report::Failed {
+            number,
+            step: _,
+            used: _,
+        } => number,
+        Report::Refused(n) => n,
+    }
+}
+
+// The step that a report names, or 0.
+pub fn named_step(report: Report) -> u8
+    ensures { λ r. ⌜ r ≡ namedStep report ⌝ }
+{
+    match report {
+        Report::Worked { step, used: _ } => step,
+        Report::Waiting { step, used: _ } => step,
+        Report::Running { step, used: _ } => step,
+        Report::Failed {
+            number: _,
+            step,
+            used: _,
+        } => step,
+        Report::Refused(_) => 0,
+    }
 }
 
 pub enum Phase {

@@ -48,8 +48,8 @@ sub-t-2 c = search needs
 array-write-t-2 : tie.Need-array-write-t-2
 array-write-t-2 c = search needs
 
-named-requires : tie.Need-named-requires
-named-requires c κs = search needs
+named-step-requires : tie.Need-named-step-requires
+named-step-requires c κs = search needs
 
 sub-t-3 : tie.Need-sub-t-3
 sub-t-3 c = search needs
@@ -59,7 +59,7 @@ array-write-t-3 c = search needs
 
 returns : tie.Need-returns
 unfolding tailOf
-returns c = rw ((c .before .before .before .tag .ensures), (c .before .before .went .ensures), (c .before .number .ensures), (c .named .ensures))
+returns c = rw ((c .before .before .before .tag .ensures), (c .before .before .went .ensures), (c .before .number .ensures), (c .named-step .ensures))
 
 pub tail-spec : {M : Type 1} → statement M
 tail-spec =
@@ -80,7 +80,7 @@ tail-spec =
     number-requires
     sub-t-2
     array-write-t-2
-    named-requires
+    named-step-requires
     sub-t-3
     array-write-t-3
     returns)
