@@ -2,3 +2,4 @@ pub mod Answer
 pub mod Said
 pub mod Tests
 pub mod Numbers
+pub mod Order
