@@ -5,18 +5,6 @@ use Rattle.answer.specs.Answer.{told}
 use Rattle.capi.proofs.adc.Statement.{statement}
 use Rattle.capi.proofs.adc.Tie as tie
 
-read-image-requires : tie.Need-read-image-requires
-read-image-requires c κs = search needs
-
-enum-known-n : tie.Need-enum-known-n
-enum-known-n c = search needs
-
-enum-known-fields : tie.Need-enum-known-fields
-enum-known-fields c = search needs
-
-adc-frequency-requires : tie.Need-adc-frequency-requires
-adc-frequency-requires c κs = search needs
-
 returns : tie.Need-returns
 unfolding adcRead
 returns c = simp (told imageRead (c .before .before .before .read-image .ensures) (c .before .n .given .1))
@@ -32,9 +20,9 @@ pub adc-spec : {M : Type 1} → statement M
 adc-spec =
     tie.close
     (tie.spec
-    read-image-requires
-    enum-known-n
-    enum-known-fields
-    adc-frequency-requires
+    (search needs)
+    (search needs)
+    (search needs)
+    (search needs)
     returns
     returns-2)

@@ -6,27 +6,6 @@ use Rattle.answer.specs.Answer.{told}
 use Rattle.capi.proofs.check.Statement.{statement}
 use Rattle.capi.proofs.check.Tie as tie
 
-read-profile-requires : tie.Need-read-profile-requires
-read-profile-requires c κs = search needs
-
-enum-known-n : tie.Need-enum-known-n
-enum-known-n c = search needs
-
-enum-known-config : tie.Need-enum-known-config
-enum-known-config c = search needs
-
-clocks-requires : tie.Need-clocks-requires
-clocks-requires c κs = search needs
-
-enum-known-checked : tie.Need-enum-known-checked
-enum-known-checked c = search needs
-
-enum-told : tie.Need-enum-told
-enum-told c = search needs
-
-refused-requires : tie.Need-refused-requires
-refused-requires c κs = search needs
-
 returns : tie.Need-returns
 unfolding checkRead
 returns c =
@@ -60,13 +39,13 @@ pub check-spec : {M : Type 1} → statement M
 check-spec =
     tie.close
     (tie.spec
-    read-profile-requires
-    enum-known-n
-    enum-known-config
-    clocks-requires
-    enum-known-checked
-    enum-told
-    refused-requires
+    (search needs)
+    (search needs)
+    (search needs)
+    (search needs)
+    (search needs)
+    (search needs)
+    (search needs)
     returns
     returns-2
     returns-3)

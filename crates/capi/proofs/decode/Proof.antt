@@ -6,21 +6,6 @@ use Rattle.answer.specs.Answer.{told}
 use Rattle.capi.proofs.decode.Statement.{statement}
 use Rattle.capi.proofs.decode.Tie as tie
 
-read-image-requires : tie.Need-read-image-requires
-read-image-requires c κs = search needs
-
-enum-known-n : tie.Need-enum-known-n
-enum-known-n c = search needs
-
-enum-known-fields : tie.Need-enum-known-fields
-enum-known-fields c = search needs
-
-hse-requires : tie.Need-hse-requires
-hse-requires c κs = search needs
-
-decode-requires : tie.Need-decode-requires
-decode-requires c κs = search needs
-
 returns : tie.Need-returns
 unfolding decodeRead
 returns c = simp (told imageRead (c .before .before .before .read-image .ensures) (c .before .n .given .1))
@@ -36,10 +21,10 @@ pub decode-spec : {M : Type 1} → statement M
 decode-spec =
     tie.close
     (tie.spec
-    read-image-requires
-    enum-known-n
-    enum-known-fields
-    hse-requires
-    decode-requires
+    (search needs)
+    (search needs)
+    (search needs)
+    (search needs)
+    (search needs)
     returns
     returns-2)

@@ -2,15 +2,6 @@ use borrow.Author.Needs.{needs}
 use Rattle.capi.proofs.pair.Statement.{statement}
 use Rattle.capi.proofs.pair.Tie as tie
 
-enum-known-query : tie.Need-enum-known-query
-enum-known-query c = search needs
-
-enum-told : tie.Need-enum-told
-enum-told c = search needs
-
-enum-known-query-2 : tie.Need-enum-known-query-2
-enum-known-query-2 c = search needs
-
 returns : tie.Need-returns
 returns c = simp (c .before .query .given .1)
 
@@ -22,4 +13,4 @@ returns-3 c = simp (c .before .query2 .given .1)
 
 pub pair-spec : {M : Type 1} → statement M
 pair-spec =
-    tie.close (tie.spec enum-known-query enum-told enum-known-query-2 returns returns-2 returns-3)
+    tie.close (tie.spec (search needs) (search needs) (search needs) returns returns-2 returns-3)

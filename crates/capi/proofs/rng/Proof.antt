@@ -5,18 +5,6 @@ use Rattle.answer.specs.Answer.{told}
 use Rattle.capi.proofs.rng.Statement.{statement}
 use Rattle.capi.proofs.rng.Tie as tie
 
-read-image-requires : tie.Need-read-image-requires
-read-image-requires c κs = search needs
-
-enum-known-n : tie.Need-enum-known-n
-enum-known-n c = search needs
-
-enum-known-fields : tie.Need-enum-known-fields
-enum-known-fields c = search needs
-
-rng-source-frequency-requires : tie.Need-rng-source-frequency-requires
-rng-source-frequency-requires c κs = search needs
-
 returns : tie.Need-returns
 unfolding rngRead
 returns c = simp (told imageRead (c .before .before .before .read-image .ensures) (c .before .n .given .1))
@@ -32,9 +20,9 @@ pub rng-spec : {M : Type 1} → statement M
 rng-spec =
     tie.close
     (tie.spec
-    read-image-requires
-    enum-known-n
-    enum-known-fields
-    rng-source-frequency-requires
+    (search needs)
+    (search needs)
+    (search needs)
+    (search needs)
     returns
     returns-2)

@@ -3,9 +3,6 @@ use Rattle.layout.proofs.Reading.{bits-lt}
 use Rattle.capi_bytes.proofs.frequency.Statement.{statement}
 use Rattle.capi_bytes.proofs.frequency.Tie as tie
 
-bits-requires : tie.Need-bits-requires
-bits-requires c κs = search needs
-
 cast-result : tie.Need-cast-result
 cast-result c = record { fits = rw (c .bits .ensures) (bits-lt _ _ 32) }
 
@@ -13,4 +10,4 @@ returns : tie.Need-returns
 returns c = c .bits .ensures
 
 pub frequency-spec : {M : Type 1} → statement M
-frequency-spec = tie.close (tie.spec bits-requires cast-result returns)
+frequency-spec = tie.close (tie.spec (search needs) cast-result returns)

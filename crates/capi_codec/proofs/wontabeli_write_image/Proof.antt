@@ -12,39 +12,12 @@ use Rattle.capi_codec.proofs.wontabeli_write_image.Tie as tie
 returns : tie.Need-returns
 returns c = short _ _ _ (c .if1 .taken)
 
-slice-aggregate-store : tie.Need-slice-aggregate-store
-slice-aggregate-store c = search needs
-
-slice-aggregate-store-2 : tie.Need-slice-aggregate-store-2
-slice-aggregate-store-2 c = search needs
-
-store-requires : tie.Need-store-requires
-store-requires c κs = search needs
-
 returns-2 : tie.Need-returns-2
 unfolding imageFrom
 returns-2 c =
     let at-store = c .before .before in
     let at-if1 = at-store .before .before .before in
     refused _ _ _ _ (at-if1 .if1 .left) (misfit readImage 28 8 _ _ _ _ _ (at-store .store .ensures) (not-true _ (c .if2 .taken)))
-
-slice-aggregate-read-image : tie.Need-slice-aggregate-read-image
-slice-aggregate-read-image c = search needs
-
-read-image-requires : tie.Need-read-image-requires
-read-image-requires c κs = search needs
-
-enum-told : tie.Need-enum-told
-enum-told c = search needs
-
-enum-told-2 : tie.Need-enum-told-2
-enum-told-2 c = search needs
-
-slice-aggregate-give-bytes : tie.Need-slice-aggregate-give-bytes
-slice-aggregate-give-bytes c = search needs
-
-give-bytes-requires : tie.Need-give-bytes-requires
-give-bytes-requires c κs = search needs
 
 returns-3 : tie.Need-returns-3
 unfolding imageFrom
@@ -56,9 +29,6 @@ returns-3 c =
     let fits = not-false _ (at-if2 .if2 .left) in
     let read = told imageRead (at-read-image .read-image .ensures) (c .enum-told .given .1) in
     refused _ _ _ _ (at-if1 .if1 .left) (unread readImage 28 8 _ _ _ _ _ (at-store .store .ensures) refl refl fits _ read)
-
-same-length : tie.Need-same-length
-same-length c = search needs
 
 returns-4 : tie.Need-returns-4
 unfolding imageFrom
@@ -78,16 +48,16 @@ wontabeli-write-image-spec =
     tie.close
     (tie.spec
     returns
-    slice-aggregate-store
-    slice-aggregate-store-2
-    store-requires
+    (search needs)
+    (search needs)
+    (search needs)
     returns-2
-    slice-aggregate-read-image
-    read-image-requires
-    enum-told
-    enum-told-2
-    slice-aggregate-give-bytes
-    give-bytes-requires
+    (search needs)
+    (search needs)
+    (search needs)
+    (search needs)
+    (search needs)
+    (search needs)
     returns-3
-    same-length
+    (search needs)
     returns-4)

@@ -5,15 +5,6 @@ use Rattle.answer.specs.Answer.{told}
 use Rattle.capi_h4.proofs.bus.Statement.{statement}
 use Rattle.capi_h4.proofs.bus.Tie as tie
 
-pclk-from-hclk-requires : tie.Need-pclk-from-hclk-requires
-pclk-from-hclk-requires c κs = search needs
-
-enum-known-n : tie.Need-enum-known-n
-enum-known-n c = search needs
-
-enum-known-pclk : tie.Need-enum-known-pclk
-enum-known-pclk c = search needs
-
 returns : tie.Need-returns
 returns c = sym (told onBus (c .before .before .before .pclk-from-hclk .ensures) (c .before .n .given .1))
 
@@ -22,4 +13,4 @@ returns-2 c = sym (told onBus (c .before .before .before .pclk-from-hclk .ensure
 
 pub bus-spec : {M : Type 1} → statement M
 bus-spec =
-    tie.close (tie.spec pclk-from-hclk-requires enum-known-n enum-known-pclk returns returns-2)
+    tie.close (tie.spec (search needs) (search needs) (search needs) returns returns-2)

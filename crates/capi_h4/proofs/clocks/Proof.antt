@@ -5,15 +5,6 @@ use Rattle.answer.specs.Answer.{told}
 use Rattle.capi_h4.proofs.clocks.Statement.{statement}
 use Rattle.capi_h4.proofs.clocks.Tie as tie
 
-clocks-from-sysclk-requires : tie.Need-clocks-from-sysclk-requires
-clocks-from-sysclk-requires c κs = search needs
-
-enum-known-n : tie.Need-enum-known-n
-enum-known-n c = search needs
-
-enum-known-ahb : tie.Need-enum-known-ahb
-enum-known-ahb c = search needs
-
 returns : tie.Need-returns
 unfolding clocksAhbOf
 returns c = simp (told prescaled (c .before .before .before .clocks-from-sysclk .ensures) (c .before .n .given .1))
@@ -24,4 +15,4 @@ returns-2 c = simp (told prescaled (c .before .before .before .clocks-from-syscl
 
 pub clocks-spec : {M : Type 1} → statement M
 clocks-spec =
-    tie.close (tie.spec clocks-from-sysclk-requires enum-known-n enum-known-ahb returns returns-2)
+    tie.close (tie.spec (search needs) (search needs) (search needs) returns returns-2)

@@ -5,18 +5,9 @@ use Rattle.lent.specs.Given.{sevenWords}
 use Rattle.capi_h4.proofs.wontabeli_h4_clocks.Statement.{statement}
 use Rattle.capi_h4.proofs.wontabeli_h4_clocks.Tie as tie
 
-clocks-requires : tie.Need-clocks-requires
-clocks-requires c κs = search needs
-
-give-seven-requires : tie.Need-give-seven-requires
-give-seven-requires c κs = search needs
-
-same-length : tie.Need-same-length
-same-length c = search needs
-
 returns : tie.Need-returns
 returns c = carried _ _ _ _ _ _ (c .before .before .give-seven .ensures) (ap sevenWords (sym (c .before .before .before .before .clocks .ensures)))
 
 pub wontabeli-h4-clocks-spec : {M : Type 1} → statement M
 wontabeli-h4-clocks-spec =
-    tie.close (tie.spec clocks-requires give-seven-requires same-length returns)
+    tie.close (tie.spec (search needs) (search needs) (search needs) returns)

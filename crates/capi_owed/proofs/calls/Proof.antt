@@ -5,18 +5,6 @@ use Rattle.answer.specs.Answer.{told}
 use Rattle.capi_owed.proofs.calls.Statement.{statement}
 use Rattle.capi_owed.proofs.calls.Tie as tie
 
-read-profile-requires : tie.Need-read-profile-requires
-read-profile-requires c κs = search needs
-
-enum-known-n : tie.Need-enum-known-n
-enum-known-n c = search needs
-
-enum-known-config : tie.Need-enum-known-config
-enum-known-config c = search needs
-
-call-bound-requires : tie.Need-call-bound-requires
-call-bound-requires c κs = search needs
-
 returns : tie.Need-returns
 unfolding callsRead
 returns c = simp (told profileRead (c .before .before .before .read-profile .ensures) (c .before .n .given .1))
@@ -32,9 +20,9 @@ pub calls-spec : {M : Type 1} → statement M
 calls-spec =
     tie.close
     (tie.spec
-    read-profile-requires
-    enum-known-n
-    enum-known-config
-    call-bound-requires
+    (search needs)
+    (search needs)
+    (search needs)
+    (search needs)
     returns
     returns-2)

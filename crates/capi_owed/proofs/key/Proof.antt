@@ -4,18 +4,6 @@ use Rattle.capi_owed.specs.Owed.{keyWords}
 use Rattle.capi_owed.proofs.key.Statement.{statement}
 use Rattle.capi_owed.proofs.key.Tie as tie
 
-flash-key-requires : tie.Need-flash-key-requires
-flash-key-requires c κs = search needs
-
-enum-known-key : tie.Need-enum-known-key
-enum-known-key c = search needs
-
-enum-known-key-2 : tie.Need-enum-known-key-2
-enum-known-key-2 c = search needs
-
-enum-told : tie.Need-enum-told
-enum-told c = search needs
-
 returns : tie.Need-returns
 returns c = ap keyWords (sym (c .before .key .given .1) ∙ (c .before .before .before .flash-key .ensures))
 
@@ -29,10 +17,10 @@ pub key-spec : {M : Type 1} → statement M
 key-spec =
     tie.close
     (tie.spec
-    flash-key-requires
-    enum-known-key
-    enum-known-key-2
-    enum-told
+    (search needs)
+    (search needs)
+    (search needs)
+    (search needs)
     returns
     returns-2
     returns-3)

@@ -5,18 +5,6 @@ use Rattle.answer.specs.Answer.{told}
 use Rattle.capi_owed.proofs.waits.Statement.{statement}
 use Rattle.capi_owed.proofs.waits.Tie as tie
 
-read-profile-requires : tie.Need-read-profile-requires
-read-profile-requires c κs = search needs
-
-enum-known-n : tie.Need-enum-known-n
-enum-known-n c = search needs
-
-enum-known-config : tie.Need-enum-known-config
-enum-known-config c = search needs
-
-waits-owed-requires : tie.Need-waits-owed-requires
-waits-owed-requires c κs = search needs
-
 returns : tie.Need-returns
 unfolding waitsRead
 returns c = simp (told profileRead (c .before .before .before .read-profile .ensures) (c .before .n .given .1))
@@ -32,9 +20,9 @@ pub waits-spec : {M : Type 1} → statement M
 waits-spec =
     tie.close
     (tie.spec
-    read-profile-requires
-    enum-known-n
-    enum-known-config
-    waits-owed-requires
+    (search needs)
+    (search needs)
+    (search needs)
+    (search needs)
     returns
     returns-2)

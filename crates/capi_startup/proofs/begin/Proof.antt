@@ -6,27 +6,6 @@ use Rattle.capi_startup.specs.Calls.{startRead}
 use Rattle.capi_startup.proofs.begin.Statement.{statement}
 use Rattle.capi_startup.proofs.begin.Tie as tie
 
-read-profile-requires : tie.Need-read-profile-requires
-read-profile-requires c κs = search needs
-
-enum-known-n : tie.Need-enum-known-n
-enum-known-n c = search needs
-
-enum-known-config : tie.Need-enum-known-config
-enum-known-config c = search needs
-
-read-image-requires : tie.Need-read-image-requires
-read-image-requires c κs = search needs
-
-enum-known-n-2 : tie.Need-enum-known-n-2
-enum-known-n-2 c = search needs
-
-enum-known-fields : tie.Need-enum-known-fields
-enum-known-fields c = search needs
-
-start-requires : tie.Need-start-requires
-start-requires c κs = search needs
-
 returns : tie.Need-returns
 unfolding startRead
 returns c = simp (told profileRead (c .before .before .before .read-profile .ensures) (c .before .n .given .1))
@@ -58,13 +37,13 @@ pub begin-spec : {M : Type 1} → statement M
 begin-spec =
     tie.close
     (tie.spec
-    read-profile-requires
-    enum-known-n
-    enum-known-config
-    read-image-requires
-    enum-known-n-2
-    enum-known-fields
-    start-requires
+    (search needs)
+    (search needs)
+    (search needs)
+    (search needs)
+    (search needs)
+    (search needs)
+    (search needs)
     returns
     returns-2
     returns-3)

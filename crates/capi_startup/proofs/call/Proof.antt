@@ -6,24 +6,6 @@ use Rattle.capi_startup.proofs.Places.{refused-28, called-on}
 use Rattle.capi_startup.proofs.call.Statement.{statement}
 use Rattle.capi_startup.proofs.call.Tie as tie
 
-kept-requires : tie.Need-kept-requires
-kept-requires c κs = search needs
-
-enum-known-n : tie.Need-enum-known-n
-enum-known-n c = search needs
-
-enum-known-startup : tie.Need-enum-known-startup
-enum-known-startup c = search needs
-
-reading-requires : tie.Need-reading-requires
-reading-requires c κs = search needs
-
-step-requires : tie.Need-step-requires
-step-requires c κs = search needs
-
-number-requires : tie.Need-number-requires
-number-requires c κs = search needs
-
 returns : tie.Need-returns
 returns c =
     let at-step = c .before .before in
@@ -52,12 +34,12 @@ pub call-spec : {M : Type 1} → statement M
 call-spec =
     tie.close
     (tie.spec
-    kept-requires
-    enum-known-n
-    enum-known-startup
-    reading-requires
-    step-requires
-    number-requires
+    (search needs)
+    (search needs)
+    (search needs)
+    (search needs)
+    (search needs)
+    (search needs)
     returns
     returns-2
     returns-3)

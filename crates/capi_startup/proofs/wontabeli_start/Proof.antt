@@ -11,18 +11,6 @@ returns c =
     let at-args = c .before .before .before .before in
     short 32 (startBytes (at-args .args .p .now) (at-args .args .i .now)) (at-args .args .place .now) (c .if1 .taken)
 
-begin-requires : tie.Need-begin-requires
-begin-requires c κs = search needs
-
-enum-known-n : tie.Need-enum-known-n
-enum-known-n c = search needs
-
-enum-known-startup : tie.Need-enum-known-startup
-enum-known-startup c = search needs
-
-store-requires : tie.Need-store-requires
-store-requires c κs = search needs
-
 returns-2 : tie.Need-returns-2
 unfolding startBytes
 returns-2 c =
@@ -31,9 +19,6 @@ returns-2 c =
     let at-args = at-if1 .before .before .before .before in
     refused 32 (startBytes (at-args .args .p .now) (at-args .args .i .now)) (at-args .args .place .now) _ (at-if1 .if1 .left)
     (rw (told begun (at-begin .begin .ensures) (c .before .n .given .1)))
-
-same-length : tie.Need-same-length
-same-length c = search needs
 
 returns-3 : tie.Need-returns-3
 unfolding startBytes
@@ -50,10 +35,10 @@ wontabeli-start-spec =
     tie.close
     (tie.spec
     returns
-    begin-requires
-    enum-known-n
-    enum-known-startup
-    store-requires
+    (search needs)
+    (search needs)
+    (search needs)
+    (search needs)
     returns-2
-    same-length
+    (search needs)
     returns-3)

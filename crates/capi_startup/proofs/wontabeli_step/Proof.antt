@@ -10,21 +10,6 @@ returns c =
     let at-args = c .before .before in
     short 32 (stepBytes (at-args .args .place .now) (at-args .args .w)) (at-args .args .place .now) (c .if1 .taken)
 
-call-requires : tie.Need-call-requires
-call-requires c κs = search needs
-
-enum-known-n : tie.Need-enum-known-n
-enum-known-n c = search needs
-
-enum-known-x : tie.Need-enum-known-x
-enum-known-x c = search needs
-
-store-requires : tie.Need-store-requires
-store-requires c κs = search needs
-
-same-length : tie.Need-same-length
-same-length c = search needs
-
 returns-2 : tie.Need-returns-2
 unfolding stepBytes
 returns-2 c =
@@ -33,9 +18,6 @@ returns-2 c =
     let at-args = at-if1 .before .before in
     refused 32 (stepBytes (at-args .args .place .now) (at-args .args .w)) (at-args .args .place .now) _ (at-if1 .if1 .left)
     (rw (told calledOf (at-call .call .ensures) (c .before .n .given .1)))
-
-same-length-2 : tie.Need-same-length-2
-same-length-2 c = search needs
 
 returns-3 : tie.Need-returns-3
 unfolding stepBytes
@@ -52,11 +34,11 @@ wontabeli-step-spec =
     tie.close
     (tie.spec
     returns
-    call-requires
-    enum-known-n
-    enum-known-x
-    store-requires
-    same-length
+    (search needs)
+    (search needs)
+    (search needs)
+    (search needs)
+    (search needs)
     returns-2
-    same-length-2
+    (search needs)
     returns-3)

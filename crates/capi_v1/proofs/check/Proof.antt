@@ -9,21 +9,6 @@ returns : tie.Need-returns
 unfolding checkRead
 returns c = simp (lt-ltb _ _ (c .if1 .taken))
 
-take-config-requires : tie.Need-take-config-requires
-take-config-requires c κs = search needs
-
-enum-known-n : tie.Need-enum-known-n
-enum-known-n c = search needs
-
-enum-known-c : tie.Need-enum-known-c
-enum-known-c c = search needs
-
-chip-requires : tie.Need-chip-requires
-chip-requires c κs = search needs
-
-check-requires : tie.Need-check-requires
-check-requires c κs = search needs
-
 returns-2 : tie.Need-returns-2
 unfolding checkRead
 returns-2 c =
@@ -49,10 +34,10 @@ check-spec =
     tie.close
     (tie.spec
     returns
-    take-config-requires
-    enum-known-n
-    enum-known-c
-    chip-requires
-    check-requires
+    (search needs)
+    (search needs)
+    (search needs)
+    (search needs)
+    (search needs)
     returns-2
     returns-3)

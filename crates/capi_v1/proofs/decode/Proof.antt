@@ -9,24 +9,6 @@ returns : tie.Need-returns
 unfolding decodeRead
 returns c = simp (lt-ltb _ _ (c .if1 .taken))
 
-take-fields-requires : tie.Need-take-fields-requires
-take-fields-requires c κs = search needs
-
-enum-known-n : tie.Need-enum-known-n
-enum-known-n c = search needs
-
-enum-known-f : tie.Need-enum-known-f
-enum-known-f c = search needs
-
-chip-requires : tie.Need-chip-requires
-chip-requires c κs = search needs
-
-hse-number-requires : tie.Need-hse-number-requires
-hse-number-requires c κs = search needs
-
-decode-requires : tie.Need-decode-requires
-decode-requires c κs = search needs
-
 returns-2 : tie.Need-returns-2
 unfolding decodeRead
 returns-2 c =
@@ -54,11 +36,11 @@ decode-spec =
     tie.close
     (tie.spec
     returns
-    take-fields-requires
-    enum-known-n
-    enum-known-f
-    chip-requires
-    hse-number-requires
-    decode-requires
+    (search needs)
+    (search needs)
+    (search needs)
+    (search needs)
+    (search needs)
+    (search needs)
     returns-2
     returns-3)

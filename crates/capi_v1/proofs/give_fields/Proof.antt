@@ -9,26 +9,8 @@ use Rattle.capi_v1.proofs.give_fields.Tie as tie
 returns : tie.Need-returns
 returns c = short _ _ _ (c .if1 .taken)
 
-enum-known-fields : tie.Need-enum-known-fields
-enum-known-fields c = search needs
-
-enum-known-fields-2 : tie.Need-enum-known-fields-2
-enum-known-fields-2 c = search needs
-
-bytes-requires : tie.Need-bytes-requires
-bytes-requires c κs = search needs
-
-slice-aggregate-give-bytes : tie.Need-slice-aggregate-give-bytes
-slice-aggregate-give-bytes c = search needs
-
-give-bytes-requires : tie.Need-give-bytes-requires
-give-bytes-requires c κs = search needs
-
 returns-2 : tie.Need-returns-2
 returns-2 c = refused _ _ _ _ (c .before .before .before .if1 .left) (rw (c .before .fields .given .1) refl)
-
-same-length : tie.Need-same-length
-same-length c = search needs
 
 returns-3 : tie.Need-returns-3
 returns-3 c =
@@ -42,11 +24,11 @@ give-fields-spec =
     tie.close
     (tie.spec
     returns
-    enum-known-fields
-    enum-known-fields-2
-    bytes-requires
-    slice-aggregate-give-bytes
-    give-bytes-requires
+    (search needs)
+    (search needs)
+    (search needs)
+    (search needs)
+    (search needs)
     returns-2
-    same-length
+    (search needs)
     returns-3)

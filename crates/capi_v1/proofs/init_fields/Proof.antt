@@ -9,30 +9,6 @@ returns : tie.Need-returns
 unfolding initRead
 returns c = simp (lt-ltb _ _ (c .if1 .taken))
 
-take-config-requires : tie.Need-take-config-requires
-take-config-requires c κs = search needs
-
-enum-known-n : tie.Need-enum-known-n
-enum-known-n c = search needs
-
-enum-known-c : tie.Need-enum-known-c
-enum-known-c c = search needs
-
-take-fields-requires : tie.Need-take-fields-requires
-take-fields-requires c κs = search needs
-
-enum-known-n-2 : tie.Need-enum-known-n-2
-enum-known-n-2 c = search needs
-
-enum-known-f : tie.Need-enum-known-f
-enum-known-f c = search needs
-
-chip-requires : tie.Need-chip-requires
-chip-requires c κs = search needs
-
-init-fields-requires : tie.Need-init-fields-requires
-init-fields-requires c κs = search needs
-
 returns-2 : tie.Need-returns-2
 unfolding initRead
 returns-2 c =
@@ -74,14 +50,14 @@ init-fields-spec =
     tie.close
     (tie.spec
     returns
-    take-config-requires
-    enum-known-n
-    enum-known-c
-    take-fields-requires
-    enum-known-n-2
-    enum-known-f
-    chip-requires
-    init-fields-requires
+    (search needs)
+    (search needs)
+    (search needs)
+    (search needs)
+    (search needs)
+    (search needs)
+    (search needs)
+    (search needs)
     returns-2
     returns-3
     returns-4)

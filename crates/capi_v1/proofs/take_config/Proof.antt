@@ -9,15 +9,9 @@ returns : tie.Need-returns
 unfolding readConfig
 returns c = simp (ne-eqb _ _ (c .if1 .taken))
 
-config-allowed-requires : tie.Need-config-allowed-requires
-config-allowed-requires c κs = search needs
-
 returns-2 : tie.Need-returns-2
 unfolding readConfig
 returns-2 c = simp (eq-eqb _ _ (c .before .before .if1 .left), sym (c .before .config-allowed .ensures), c .if2 .taken)
-
-config-of-requires : tie.Need-config-of-requires
-config-of-requires c κs = search needs
 
 returns-3 : tie.Need-returns-3
 unfolding readConfig
@@ -28,4 +22,4 @@ returns-3 c =
 
 pub take-config-spec : {M : Type 1} → statement M
 take-config-spec =
-    tie.close (tie.spec returns config-allowed-requires returns-2 config-of-requires returns-3)
+    tie.close (tie.spec returns (search needs) returns-2 (search needs) returns-3)

@@ -5,18 +5,9 @@ use Rattle.lent.specs.Given.{sixWords}
 use Rattle.capi_v1.proofs.wontabeli_v1_decode.Statement.{statement}
 use Rattle.capi_v1.proofs.wontabeli_v1_decode.Tie as tie
 
-decode-requires : tie.Need-decode-requires
-decode-requires c κs = search needs
-
-give-six-requires : tie.Need-give-six-requires
-give-six-requires c κs = search needs
-
-same-length : tie.Need-same-length
-same-length c = search needs
-
 returns : tie.Need-returns
 returns c = carried _ _ _ _ _ _ (c .before .before .give-six .ensures) (ap sixWords (sym (c .before .before .before .before .decode .ensures)))
 
 pub wontabeli-v1-decode-spec : {M : Type 1} → statement M
 wontabeli-v1-decode-spec =
-    tie.close (tie.spec decode-requires give-six-requires same-length returns)
+    tie.close (tie.spec (search needs) (search needs) (search needs) returns)

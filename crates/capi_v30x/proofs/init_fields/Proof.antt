@@ -4,27 +4,6 @@ use Rattle.answer.specs.Answer.{told}
 use Rattle.capi_v30x.proofs.init_fields.Statement.{statement}
 use Rattle.capi_v30x.proofs.init_fields.Tie as tie
 
-take-config-requires : tie.Need-take-config-requires
-take-config-requires c κs = search needs
-
-enum-known-n : tie.Need-enum-known-n
-enum-known-n c = search needs
-
-enum-known-c : tie.Need-enum-known-c
-enum-known-c c = search needs
-
-take-fields-requires : tie.Need-take-fields-requires
-take-fields-requires c κs = search needs
-
-enum-known-n-2 : tie.Need-enum-known-n-2
-enum-known-n-2 c = search needs
-
-enum-known-f : tie.Need-enum-known-f
-enum-known-f c = search needs
-
-init-fields-requires : tie.Need-init-fields-requires
-init-fields-requires c κs = search needs
-
 returns : tie.Need-returns
 unfolding initRead
 returns c = simp (told takenConfig (c .before .before .before .take-config .ensures) (c .before .n .given .1))
@@ -57,13 +36,13 @@ pub init-fields-spec : {M : Type 1} → statement M
 init-fields-spec =
     tie.close
     (tie.spec
-    take-config-requires
-    enum-known-n
-    enum-known-c
-    take-fields-requires
-    enum-known-n-2
-    enum-known-f
-    init-fields-requires
+    (search needs)
+    (search needs)
+    (search needs)
+    (search needs)
+    (search needs)
+    (search needs)
+    (search needs)
     returns
     returns-2
     returns-3)

@@ -5,15 +5,6 @@ use Rattle.capi_v30x.specs.Calls.{fieldBytes}
 use Rattle.capi_v30x.proofs.wontabeli_v30x_init_fields.Statement.{statement}
 use Rattle.capi_v30x.proofs.wontabeli_v30x_init_fields.Tie as tie
 
-init-fields-requires : tie.Need-init-fields-requires
-init-fields-requires c κs = search needs
-
-give-fields-requires : tie.Need-give-fields-requires
-give-fields-requires c κs = search needs
-
-same-length : tie.Need-same-length
-same-length c = search needs
-
 returns : tie.Need-returns
 returns c =
     let give-fields = c .before .before .give-fields in
@@ -22,4 +13,4 @@ returns c =
 
 pub wontabeli-v30x-init-fields-spec : {M : Type 1} → statement M
 wontabeli-v30x-init-fields-spec =
-    tie.close (tie.spec init-fields-requires give-fields-requires same-length returns)
+    tie.close (tie.spec (search needs) (search needs) (search needs) returns)

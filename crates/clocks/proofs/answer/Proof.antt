@@ -4,18 +4,6 @@ use Rattle.report.proofs.Showing.{counts}
 use Rattle.clocks.proofs.answer.Statement.{statement}
 use Rattle.clocks.proofs.answer.Tie as tie
 
-slice-aggregate-report : tie.Need-slice-aggregate-report
-slice-aggregate-report c = search needs
-
-report-requires : tie.Need-report-requires
-report-requires c κs = search needs
-
-enum-known-n : tie.Need-enum-known-n
-enum-known-n c = search needs
-
-enum-told : tie.Need-enum-told
-enum-told c = search needs
-
 returns : tie.Need-returns
 returns c = search needs
 
@@ -30,9 +18,6 @@ slice-aggregate-write-all c =
     let n-at = c .before .before .n in
     counts (report .ensures) (n-at .given .1) .1
 
-write-all-requires : tie.Need-write-all-requires
-write-all-requires c κs = search needs
-
 returns-2 : tie.Need-returns-2
 returns-2 c = search needs
 
@@ -40,12 +25,12 @@ pub answer-spec : {M : Type 1} → statement M
 answer-spec =
     tie.close
     (tie.spec
-    slice-aggregate-report
-    report-requires
-    enum-known-n
-    enum-told
+    (search needs)
+    (search needs)
+    (search needs)
+    (search needs)
     returns
     array-share-prefix-out
     slice-aggregate-write-all
-    write-all-requires
+    (search needs)
     returns-2)

@@ -6,24 +6,9 @@ use Rattle.decoder.specs.Decode.{decodeOf}
 use Rattle.decoder.proofs.decode.Statement.{statement}
 use Rattle.decoder.proofs.decode.Tie as tie
 
-in-width-requires : tie.Need-in-width-requires
-in-width-requires c κs = search needs
-
 returns : tie.Need-returns
 unfolding decodeOf
 returns c = simp (sym (c .before .in-width .ensures), c .if1 .taken)
-
-sysclk-requires : tie.Need-sysclk-requires
-sysclk-requires c κs = search needs
-
-enum-known-system : tie.Need-enum-known-system
-enum-known-system c = search needs
-
-enum-told : tie.Need-enum-told
-enum-told c = search needs
-
-refusal-requires : tie.Need-refusal-requires
-refusal-requires c κs = search needs
 
 returns-2 : tie.Need-returns-2
 unfolding decodeOf
@@ -38,9 +23,6 @@ returns-2 c =
       c .before .enum-told .given .1,
       told replied (sysclk .ensures) (c .before .enum-told .given .1),
     )
-
-bus-clocks-requires : tie.Need-bus-clocks-requires
-bus-clocks-requires c κs = search needs
 
 returns-3 : tie.Need-returns-3
 unfolding decodeOf
@@ -60,12 +42,12 @@ pub decode-spec : {M : Type 1} → statement M
 decode-spec =
     tie.close
     (tie.spec
-    in-width-requires
+    (search needs)
     returns
-    sysclk-requires
-    enum-known-system
-    enum-told
-    refusal-requires
+    (search needs)
+    (search needs)
+    (search needs)
+    (search needs)
     returns-2
-    bus-clocks-requires
+    (search needs)
     returns-3)

@@ -10,23 +10,11 @@ returns : tie.Need-returns
 unfolding inUseOf
 returns c = simp (eq-eqb _ _ (c .if1 .taken))
 
-used-hse-requires : tie.Need-used-hse-requires
-used-hse-requires c κs = search needs
-
 returns-2 : tie.Need-returns-2
 unfolding inUseOf
 returns-2 c =
     let if1 = c .before .before .if1 in
     simp (ne-eqb _ _ (if1 .left), eq-eqb _ _ (c .before .if2 .taken), c .used-hse .ensures)
-
-syspll-input-requires : tie.Need-syspll-input-requires
-syspll-input-requires c κs = search needs
-
-enum-known-input : tie.Need-enum-known-input
-enum-known-input c = search needs
-
-enum-told : tie.Need-enum-told
-enum-told c = search needs
 
 returns-3 : tie.Need-returns-3
 unfolding inUseOf
@@ -42,9 +30,6 @@ returns-3 c =
       syspll-input .ensures,
       told replied (syspll-input .ensures) (c .enum-told .given .1),
     )
-
-by-one-more-requires : tie.Need-by-one-more-requires
-by-one-more-requires c κs = search needs
 
 returns-4 : tie.Need-returns-4
 unfolding inUseOf
@@ -73,12 +58,12 @@ sysclk-spec =
     tie.close
     (tie.spec
     returns
-    used-hse-requires
+    (search needs)
     returns-2
-    syspll-input-requires
-    enum-known-input
-    enum-told
+    (search needs)
+    (search needs)
+    (search needs)
     returns-3
-    by-one-more-requires
+    (search needs)
     returns-4
     returns-5)

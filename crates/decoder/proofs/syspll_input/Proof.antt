@@ -7,18 +7,6 @@ use Rattle.decoder.specs.Decode.{selectedOf}
 use Rattle.decoder.proofs.syspll_input.Statement.{statement}
 use Rattle.decoder.proofs.syspll_input.Tie as tie
 
-usbhs-pll-requires : tie.Need-usbhs-pll-requires
-usbhs-pll-requires c κs = search needs
-
-enum-known-n : tie.Need-enum-known-n
-enum-known-n c = search needs
-
-enum-told : tie.Need-enum-told
-enum-told c = search needs
-
-syspll-input-requires : tie.Need-syspll-input-requires
-syspll-input-requires c κs = search needs
-
 returns : tie.Need-returns
 unfolding selectedOf
 returns c =
@@ -36,21 +24,6 @@ returns-2 c =
       told done (usbhs-pll .ensures) (c .before .enum-told .given .1),
       c .syspll-input .ensures,
     )
-
-used-hse-requires : tie.Need-used-hse-requires
-used-hse-requires c κs = search needs
-
-eth-pll-requires : tie.Need-eth-pll-requires
-eth-pll-requires c κs = search needs
-
-enum-known-n-2 : tie.Need-enum-known-n-2
-enum-known-n-2 c = search needs
-
-enum-told-2 : tie.Need-enum-told-2
-enum-told-2 c = search needs
-
-syspll-input-requires-2 : tie.Need-syspll-input-requires-2
-syspll-input-requires-2 c κs = search needs
 
 returns-3 : tie.Need-returns-3
 unfolding selectedOf
@@ -81,18 +54,6 @@ returns-4 c =
       c .syspll-input2 .ensures,
     )
 
-used-hse-requires-2 : tie.Need-used-hse-requires-2
-used-hse-requires-2 c κs = search needs
-
-main-pll-requires : tie.Need-main-pll-requires
-main-pll-requires c κs = search needs
-
-enum-known-main : tie.Need-enum-known-main
-enum-known-main c = search needs
-
-enum-told-3 : tie.Need-enum-told-3
-enum-told-3 c = search needs
-
 returns-5 : tie.Need-returns-5
 unfolding selectedOf
 returns-5 c =
@@ -109,9 +70,6 @@ returns-5 c =
       main-pll .ensures,
       told replied (main-pll .ensures) (c .enum-told3 .given .1),
     )
-
-syspll-input-requires-3 : tie.Need-syspll-input-requires-3
-syspll-input-requires-3 c κs = search needs
 
 returns-6 : tie.Need-returns-6
 unfolding selectedOf
@@ -139,24 +97,24 @@ pub syspll-input-spec : {M : Type 1} → statement M
 syspll-input-spec =
     tie.close
     (tie.spec
-    usbhs-pll-requires
-    enum-known-n
-    enum-told
-    syspll-input-requires
+    (search needs)
+    (search needs)
+    (search needs)
+    (search needs)
     returns
     returns-2
-    used-hse-requires
-    eth-pll-requires
-    enum-known-n-2
-    enum-told-2
-    syspll-input-requires-2
+    (search needs)
+    (search needs)
+    (search needs)
+    (search needs)
+    (search needs)
     returns-3
     returns-4
-    used-hse-requires-2
-    main-pll-requires
-    enum-known-main
-    enum-told-3
+    (search needs)
+    (search needs)
+    (search needs)
+    (search needs)
     returns-5
-    syspll-input-requires-3
+    (search needs)
     returns-6
     returns-7)

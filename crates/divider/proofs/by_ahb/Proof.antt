@@ -6,15 +6,6 @@ use Rattle.divider.specs.Laws.{ahb-given}
 use Rattle.divider.proofs.by_ahb.Statement.{statement}
 use Rattle.divider.proofs.by_ahb.Tie as tie
 
-ahb-requires : tie.Need-ahb-requires
-ahb-requires c κs = search needs
-
-enum-known-divisor : tie.Need-enum-known-divisor
-enum-known-divisor c = search needs
-
-enum-told : tie.Need-enum-told
-enum-told c = search needs
-
 returns : tie.Need-returns
 unfolding byAhbOf
 returns c =
@@ -37,4 +28,4 @@ returns-2 c =
 pub by-ahb-spec : {M : Type 1} → statement M
 by-ahb-spec =
     tie.close
-    (tie.spec ahb-requires enum-known-divisor enum-told returns divided-requires returns-2)
+    (tie.spec (search needs) (search needs) (search needs) returns divided-requires returns-2)

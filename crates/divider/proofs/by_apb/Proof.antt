@@ -6,15 +6,6 @@ use Rattle.divider.specs.Laws.{apb-given}
 use Rattle.divider.proofs.by_apb.Statement.{statement}
 use Rattle.divider.proofs.by_apb.Tie as tie
 
-apb-requires : tie.Need-apb-requires
-apb-requires c κs = search needs
-
-enum-known-divisor : tie.Need-enum-known-divisor
-enum-known-divisor c = search needs
-
-enum-told : tie.Need-enum-told
-enum-told c = search needs
-
 returns : tie.Need-returns
 unfolding byApbOf
 returns c =
@@ -37,4 +28,4 @@ returns-2 c =
 pub by-apb-spec : {M : Type 1} → statement M
 by-apb-spec =
     tie.close
-    (tie.spec apb-requires enum-known-divisor enum-told returns divided-requires returns-2)
+    (tie.spec (search needs) (search needs) (search needs) returns divided-requires returns-2)

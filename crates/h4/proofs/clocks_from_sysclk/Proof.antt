@@ -7,18 +7,6 @@ use Rattle.h4.specs.H4.{prescaledOf}
 use Rattle.h4.proofs.clocks_from_sysclk.Statement.{statement}
 use Rattle.h4.proofs.clocks_from_sysclk.Tie as tie
 
-ahb-from-sysclk-requires : tie.Need-ahb-from-sysclk-requires
-ahb-from-sysclk-requires c κs = search needs
-
-enum-known-divided : tie.Need-enum-known-divided
-enum-known-divided c = search needs
-
-enum-told : tie.Need-enum-told
-enum-told c = search needs
-
-refusal-requires : tie.Need-refusal-requires
-refusal-requires c κs = search needs
-
 returns : tie.Need-returns
 unfolding prescaledOf
 returns c =
@@ -28,18 +16,6 @@ returns c =
       c .before .enum-told .given .1,
       told replied (ahb-from-sysclk .ensures) (c .before .enum-told .given .1),
     )
-
-hclk-from-ahb-requires : tie.Need-hclk-from-ahb-requires
-hclk-from-ahb-requires c κs = search needs
-
-below-hclk-requires : tie.Need-below-hclk-requires
-below-hclk-requires c κs = search needs
-
-enum-known-n : tie.Need-enum-known-n
-enum-known-n c = search needs
-
-enum-known-clocks : tie.Need-enum-known-clocks
-enum-known-clocks c = search needs
 
 returns-2 : tie.Need-returns-2
 unfolding prescaledOf
@@ -71,14 +47,14 @@ pub clocks-from-sysclk-spec : {M : Type 1} → statement M
 clocks-from-sysclk-spec =
     tie.close
     (tie.spec
-    ahb-from-sysclk-requires
-    enum-known-divided
-    enum-told
-    refusal-requires
+    (search needs)
+    (search needs)
+    (search needs)
+    (search needs)
     returns
-    hclk-from-ahb-requires
-    below-hclk-requires
-    enum-known-n
-    enum-known-clocks
+    (search needs)
+    (search needs)
+    (search needs)
+    (search needs)
     returns-2
     returns-3)

@@ -5,15 +5,6 @@ use Rattle.h4.specs.H4.{pclkOf}
 use Rattle.h4.proofs.pclk_from_hclk.Statement.{statement}
 use Rattle.h4.proofs.pclk_from_hclk.Tie as tie
 
-by-apb-requires : tie.Need-by-apb-requires
-by-apb-requires c κs = search needs
-
-enum-known-n : tie.Need-enum-known-n
-enum-known-n c = search needs
-
-enum-known-pclk : tie.Need-enum-known-pclk
-enum-known-pclk c = search needs
-
 returns : tie.Need-returns
 unfolding pclkOf
 returns c = simp (told replied (c .before .before .before .by-apb .ensures) (c .before .n .given .1))
@@ -24,4 +15,4 @@ returns-2 c = simp (told replied (c .before .before .before .by-apb .ensures) (c
 
 pub pclk-from-hclk-spec : {M : Type 1} → statement M
 pclk-from-hclk-spec =
-    tie.close (tie.spec by-apb-requires enum-known-n enum-known-pclk returns returns-2)
+    tie.close (tie.spec (search needs) (search needs) (search needs) returns returns-2)

@@ -4,33 +4,6 @@ use borrow.Author.Needs.{needs}
 use Rattle.image.proofs.read_cfgr0.Statement.{statement}
 use Rattle.image.proofs.read_cfgr0.Tie as tie
 
-code-requires : tie.Need-code-requires
-code-requires c κs = search needs
-
-flag-requires : tie.Need-flag-requires
-flag-requires c κs = search needs
-
-code-requires-2 : tie.Need-code-requires-2
-code-requires-2 c κs = search needs
-
-code-requires-3 : tie.Need-code-requires-3
-code-requires-3 c κs = search needs
-
-code-requires-4 : tie.Need-code-requires-4
-code-requires-4 c κs = search needs
-
-code-requires-5 : tie.Need-code-requires-5
-code-requires-5 c κs = search needs
-
-code-requires-6 : tie.Need-code-requires-6
-code-requires-6 c κs = search needs
-
-flag-requires-2 : tie.Need-flag-requires-2
-flag-requires-2 c κs = search needs
-
-code-requires-7 : tie.Need-code-requires-7
-code-requires-7 c κs = search needs
-
 returns : tie.Need-returns
 unfolding cfgr0Of
 returns c =
@@ -50,13 +23,13 @@ pub read-cfgr0-spec : {M : Type 1} → statement M
 read-cfgr0-spec =
     tie.close
     (tie.spec
-    code-requires
-    flag-requires
-    code-requires-2
-    code-requires-3
-    code-requires-4
-    code-requires-5
-    code-requires-6
-    flag-requires-2
-    code-requires-7
+    (search needs)
+    (search needs)
+    (search needs)
+    (search needs)
+    (search needs)
+    (search needs)
+    (search needs)
+    (search needs)
+    (search needs)
     returns)

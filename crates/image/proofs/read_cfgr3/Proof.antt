@@ -4,12 +4,9 @@ use borrow.Author.Needs.{needs}
 use Rattle.image.proofs.read_cfgr3.Statement.{statement}
 use Rattle.image.proofs.read_cfgr3.Tie as tie
 
-code-requires : tie.Need-code-requires
-code-requires c κs = search needs
-
 returns : tie.Need-returns
 unfolding cfgr3Of
 returns c = rw (c .code .ensures)
 
 pub read-cfgr3-spec : {M : Type 1} → statement M
-read-cfgr3-spec = tie.close (tie.spec code-requires returns)
+read-cfgr3-spec = tie.close (tie.spec (search needs) returns)

@@ -4,27 +4,6 @@ use borrow.Author.Needs.{needs}
 use Rattle.image.proofs.read_ctlr.Statement.{statement}
 use Rattle.image.proofs.read_ctlr.Tie as tie
 
-flag-requires : tie.Need-flag-requires
-flag-requires c κs = search needs
-
-flag-requires-2 : tie.Need-flag-requires-2
-flag-requires-2 c κs = search needs
-
-flag-requires-3 : tie.Need-flag-requires-3
-flag-requires-3 c κs = search needs
-
-flag-requires-4 : tie.Need-flag-requires-4
-flag-requires-4 c κs = search needs
-
-flag-requires-5 : tie.Need-flag-requires-5
-flag-requires-5 c κs = search needs
-
-flag-requires-6 : tie.Need-flag-requires-6
-flag-requires-6 c κs = search needs
-
-flag-requires-7 : tie.Need-flag-requires-7
-flag-requires-7 c κs = search needs
-
 returns : tie.Need-returns
 unfolding ctlrOf
 returns c =
@@ -42,11 +21,11 @@ pub read-ctlr-spec : {M : Type 1} → statement M
 read-ctlr-spec =
     tie.close
     (tie.spec
-    flag-requires
-    flag-requires-2
-    flag-requires-3
-    flag-requires-4
-    flag-requires-5
-    flag-requires-6
-    flag-requires-7
+    (search needs)
+    (search needs)
+    (search needs)
+    (search needs)
+    (search needs)
+    (search needs)
+    (search needs)
     returns)

@@ -31,14 +31,8 @@ returns : tie.Need-returns
 unfolding readImage
 returns c = simp (ne-eqb _ _ (c .if1 .taken))
 
-code-requires : tie.Need-code-requires
-code-requires c κs = search needs
-
 returns-2 : tie.Need-returns-2
 returns-2 c = unfilled (c .before .before .before .before .args .s .now) _ (c .before .before .if1 .left) (c .before .code .ensures) (c .if2 .taken)
-
-read-fields-requires : tie.Need-read-fields-requires
-read-fields-requires c κs = search needs
 
 returns-3 : tie.Need-returns-3
 returns-3 c =
@@ -48,4 +42,4 @@ returns-3 c =
     taken (args .s .now) _ (at-if1 .if1 .left) (at-code .code .ensures) _ (c .before .if2 .left) (c .read-fields .ensures)
 
 pub read-image-spec : {M : Type 1} → statement M
-read-image-spec = tie.close (tie.spec returns code-requires returns-2 read-fields-requires returns-3)
+read-image-spec = tie.close (tie.spec returns (search needs) returns-2 (search needs) returns-3)

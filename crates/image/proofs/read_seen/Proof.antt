@@ -4,24 +4,6 @@ use borrow.Author.Needs.{needs}
 use Rattle.image.proofs.read_seen.Statement.{statement}
 use Rattle.image.proofs.read_seen.Tie as tie
 
-flag-requires : tie.Need-flag-requires
-flag-requires c κs = search needs
-
-flag-requires-2 : tie.Need-flag-requires-2
-flag-requires-2 c κs = search needs
-
-flag-requires-3 : tie.Need-flag-requires-3
-flag-requires-3 c κs = search needs
-
-flag-requires-4 : tie.Need-flag-requires-4
-flag-requires-4 c κs = search needs
-
-flag-requires-5 : tie.Need-flag-requires-5
-flag-requires-5 c κs = search needs
-
-code-requires : tie.Need-code-requires
-code-requires c κs = search needs
-
 returns : tie.Need-returns
 unfolding seenOf
 returns c =
@@ -38,10 +20,10 @@ pub read-seen-spec : {M : Type 1} → statement M
 read-seen-spec =
     tie.close
     (tie.spec
-    flag-requires
-    flag-requires-2
-    flag-requires-3
-    flag-requires-4
-    flag-requires-5
-    code-requires
+    (search needs)
+    (search needs)
+    (search needs)
+    (search needs)
+    (search needs)
+    (search needs)
     returns)

@@ -38,29 +38,11 @@ module _ (f : Fields) (l xs part : List ℕ) (r : Bool) (h : 8 ≤ length l) (x 
 returns : tie.Need-returns
 returns c = let a = c .before .before .args in short 8 (imageBytes (a .f)) (a .out .now) (c .if1 .taken)
 
-list-of-requires : tie.Need-list-of-requires
-list-of-requires c κs = search needs
-
-slice-aggregate-store : tie.Need-slice-aggregate-store
-slice-aggregate-store c = search needs
-
-slice-aggregate-store-2 : tie.Need-slice-aggregate-store-2
-slice-aggregate-store-2 c = search needs
-
-slice-relend-prefix-store : tie.Need-slice-relend-prefix-store
-slice-relend-prefix-store c = search needs
-
 slice-aggregate-store-3 : tie.Need-slice-aggregate-store-3
 slice-aggregate-store-3 c =
     let at-if1 = c .before .before .before .before in
     let at-args = at-if1 .before .before in
     sym (length-take-le 8 (at-args .args .out .now) (at-if1 .if1 .left))
-
-store-requires : tie.Need-store-requires
-store-requires c κs = search needs
-
-same-length : tie.Need-same-length
-same-length c = search needs
 
 returns-2 : tie.Need-returns-2
 returns-2 c =
@@ -68,9 +50,6 @@ returns-2 c =
     let s = a .before .before .before .args in
     let store = c .before .before .before .store in
     accepted (s .f) (s .out .now) (a .list-of .result) _ _ (a .before .if1 .left) (a .list-of .ensures) (store .ensures) (c .if2 .taken)
-
-same-length-2 : tie.Need-same-length-2
-same-length-2 c = search needs
 
 returns-3 : tie.Need-returns-3
 returns-3 c =
@@ -84,13 +63,13 @@ write-image-spec =
     tie.close
     (tie.spec
     returns
-    list-of-requires
-    slice-aggregate-store
-    slice-aggregate-store-2
-    slice-relend-prefix-store
+    (search needs)
+    (search needs)
+    (search needs)
+    (search needs)
     slice-aggregate-store-3
-    store-requires
-    same-length
+    (search needs)
+    (search needs)
     returns-2
-    same-length-2
+    (search needs)
     returns-3)

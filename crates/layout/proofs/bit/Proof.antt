@@ -26,24 +26,6 @@ module _ (s : List ℕ) (start k : ℕ) where
       let z : getD s (start + k / 8) 0 ≡ 0 = List·getD-eq-default s 0 h in
       rw (byte-of, z, zero-div)
 
-add-j : tie.Need-add-j
-add-j c = search needs
-
-sub-q : tie.Need-sub-q
-sub-q c = search needs
-
-cast-q : tie.Need-cast-q
-cast-q c = search needs
-
-shared-slice-read-wide : tie.Need-shared-slice-read-wide
-shared-slice-read-wide c = search needs
-
-wide-requires : tie.Need-wide-requires
-wide-requires c κs = search needs
-
-two-requires : tie.Need-two-requires
-two-requires c κs = search needs
-
 div-result : tie.Need-div-result
 div-result c = rw (c .two .ensures) (pow-pos _)
 
@@ -61,12 +43,12 @@ pub bit-spec : {M : Type 1} → statement M
 bit-spec =
     tie.close
     (tie.spec
-    add-j
-    sub-q
-    cast-q
-    shared-slice-read-wide
-    wide-requires
-    two-requires
+    (search needs)
+    (search needs)
+    (search needs)
+    (search needs)
+    (search needs)
+    (search needs)
     div-result
     returns
     returns-2)

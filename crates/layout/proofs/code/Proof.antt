@@ -21,12 +21,6 @@ module _ (s : List ℕ) (at n r : ℕ) (h : n ≤ 8) (e : r ≡ bitsAt s at (upT
   small : r < 256
   small = let p : 2 ^ n ≤ 2 ^ 8 = pow-mono {i = n} {j = 8} h in omega (arith, given, bits-lt s at n)
 
-up-to-requires : tie.Need-up-to-requires
-up-to-requires c κs = search needs
-
-bits-requires : tie.Need-bits-requires
-bits-requires c κs = search needs
-
 cast-result : tie.Need-cast-result
 cast-result c =
     let s = c .before .before .before in
@@ -40,4 +34,4 @@ returns c =
     given (s .args .s .now) (s .args .at) _ _ h (c .bits .ensures) ∙ ap (bitsAt (s .args .s .now) (s .args .at)) (c .before .up-to .ensures .0)
 
 pub code-spec : {M : Type 1} → statement M
-code-spec = tie.close (tie.spec up-to-requires bits-requires cast-result returns)
+code-spec = tie.close (tie.spec (search needs) (search needs) cast-result returns)

@@ -6,11 +6,8 @@ use borrow.Author.Needs.{needs}
 use Rattle.layout.proofs.flag.Statement.{statement}
 use Rattle.layout.proofs.flag.Tie as tie
 
-bits-requires : tie.Need-bits-requires
-bits-requires c κs = search needs
-
 returns : tie.Need-returns
 returns c = ap (λ (n : ℕ). eqb n 1) (c .bits .ensures)
 
 pub flag-spec : {M : Type 1} → statement M
-flag-spec = tie.close (tie.spec bits-requires returns)
+flag-spec = tie.close (tie.spec (search needs) returns)

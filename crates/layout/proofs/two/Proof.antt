@@ -6,11 +6,8 @@ use borrow.Author.Needs.{needs}
 use Rattle.layout.proofs.two.Statement.{statement}
 use Rattle.layout.proofs.two.Tie as tie
 
-shl-result : tie.Need-shl-result
-shl-result c = search needs
-
 returns : tie.Need-returns
 returns c = rw one-mul (mod-eq-of-lt (pow-lt {j = 64} (omega arith)))
 
 pub two-spec : {M : Type 1} → statement M
-two-spec = tie.close (tie.spec shl-result returns)
+two-spec = tie.close (tie.spec (search needs) returns)

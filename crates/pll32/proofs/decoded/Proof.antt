@@ -6,24 +6,9 @@ use Rattle.pll32.specs.Pll.{decodedOf}
 use Rattle.pll32.proofs.decoded.Statement.{statement}
 use Rattle.pll32.proofs.decoded.Tie as tie
 
-too-wide-requires : tie.Need-too-wide-requires
-too-wide-requires c κs = search needs
-
 returns : tie.Need-returns
 unfolding decodedOf
 returns c = simp (sym (c .before .too-wide .ensures), c .if1 .taken)
-
-decoded-sysclk-requires : tie.Need-decoded-sysclk-requires
-decoded-sysclk-requires c κs = search needs
-
-enum-known-system : tie.Need-enum-known-system
-enum-known-system c = search needs
-
-enum-told : tie.Need-enum-told
-enum-told c = search needs
-
-refusal-requires : tie.Need-refusal-requires
-refusal-requires c κs = search needs
 
 returns-2 : tie.Need-returns-2
 unfolding decodedOf
@@ -38,12 +23,6 @@ returns-2 c =
       c .before .enum-told .given .1,
       told replied (decoded-sysclk .ensures) (c .before .enum-told .given .1),
     )
-
-family-requires : tie.Need-family-requires
-family-requires c κs = search needs
-
-bus-clocks-requires : tie.Need-bus-clocks-requires
-bus-clocks-requires c κs = search needs
 
 returns-3 : tie.Need-returns-3
 unfolding decodedOf
@@ -64,13 +43,13 @@ pub decoded-spec : {M : Type 1} → statement M
 decoded-spec =
     tie.close
     (tie.spec
-    too-wide-requires
+    (search needs)
     returns
-    decoded-sysclk-requires
-    enum-known-system
-    enum-told
-    refusal-requires
+    (search needs)
+    (search needs)
+    (search needs)
+    (search needs)
     returns-2
-    family-requires
-    bus-clocks-requires
+    (search needs)
+    (search needs)
     returns-3)

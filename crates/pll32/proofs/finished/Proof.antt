@@ -7,24 +7,9 @@ use Rattle.pll32.specs.Pll.{finishedOf}
 use Rattle.pll32.proofs.finished.Statement.{statement}
 use Rattle.pll32.proofs.finished.Tie as tie
 
-too-wide-requires : tie.Need-too-wide-requires
-too-wide-requires c κs = search needs
-
 returns : tie.Need-returns
 unfolding finishedOf
 returns c = simp (sym (c .before .too-wide .ensures), c .if1 .taken)
-
-sysclk-requires : tie.Need-sysclk-requires
-sysclk-requires c κs = search needs
-
-enum-known-system : tie.Need-enum-known-system
-enum-known-system c = search needs
-
-enum-told : tie.Need-enum-told
-enum-told c = search needs
-
-refusal-requires : tie.Need-refusal-requires
-refusal-requires c κs = search needs
 
 returns-2 : tie.Need-returns-2
 unfolding finishedOf
@@ -39,21 +24,6 @@ returns-2 c =
       c .before .enum-told .given .1,
       told replied (sysclk .ensures) (c .before .enum-told .given .1),
     )
-
-family-requires : tie.Need-family-requires
-family-requires c κs = search needs
-
-bus-clocks-requires : tie.Need-bus-clocks-requires
-bus-clocks-requires c κs = search needs
-
-enum-known-n : tie.Need-enum-known-n
-enum-known-n c = search needs
-
-enum-known-clocks : tie.Need-enum-known-clocks
-enum-known-clocks c = search needs
-
-usb-requires : tie.Need-usb-requires
-usb-requires c κs = search needs
 
 returns-3 : tie.Need-returns-3
 unfolding finishedOf
@@ -95,17 +65,17 @@ pub finished-spec : {M : Type 1} → statement M
 finished-spec =
     tie.close
     (tie.spec
-    too-wide-requires
+    (search needs)
     returns
-    sysclk-requires
-    enum-known-system
-    enum-told
-    refusal-requires
+    (search needs)
+    (search needs)
+    (search needs)
+    (search needs)
     returns-2
-    family-requires
-    bus-clocks-requires
-    enum-known-n
-    enum-known-clocks
-    usb-requires
+    (search needs)
+    (search needs)
+    (search needs)
+    (search needs)
+    (search needs)
     returns-3
     returns-4)

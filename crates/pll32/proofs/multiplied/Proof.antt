@@ -6,27 +6,12 @@ use Rattle.pll32.specs.Pll.{multipliedOf}
 use Rattle.pll32.proofs.multiplied.Statement.{statement}
 use Rattle.pll32.proofs.multiplied.Tie as tie
 
-factor-of-requires : tie.Need-factor-of-requires
-factor-of-requires c κs = search needs
-
-cast-product : tie.Need-cast-product
-cast-product c = search needs
-
 mul-product : tie.Need-mul-product
 mul-product c = record { fits = below 32 (search needs) (search needs) }
 
 returns : tie.Need-returns
 unfolding multipliedOf
 returns c = simp (sym (c .before .factor-of .ensures), lt-ltb _ _ (c .if1 .taken))
-
-cast-fits : tie.Need-cast-fits
-cast-fits c = search needs
-
-halved-requires : tie.Need-halved-requires
-halved-requires c κs = search needs
-
-by-one-more-requires : tie.Need-by-one-more-requires
-by-one-more-requires c κs = search needs
 
 returns-2 : tie.Need-returns-2
 unfolding multipliedOf
@@ -53,12 +38,12 @@ pub multiplied-spec : {M : Type 1} → statement M
 multiplied-spec =
     tie.close
     (tie.spec
-    factor-of-requires
-    cast-product
+    (search needs)
+    (search needs)
     mul-product
     returns
-    cast-fits
-    halved-requires
-    by-one-more-requires
+    (search needs)
+    (search needs)
+    (search needs)
     returns-2
     returns-3)

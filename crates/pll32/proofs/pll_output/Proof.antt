@@ -10,27 +10,12 @@ returns : tie.Need-returns
 unfolding outputOf
 returns c = simp (le-leb _ _ (c .if1 .taken))
 
-from-requires : tie.Need-from-requires
-from-requires c κs = search needs
-
-enum-known-feeding : tie.Need-enum-known-feeding
-enum-known-feeding c = search needs
-
-enum-told : tie.Need-enum-told
-enum-told c = search needs
-
 returns-2 : tie.Need-returns-2
 unfolding outputOf
 returns-2 c =
     let if1 = c .before .before .before .if1 in
     let from = c .before .before .from in
     simp (lt-leb _ _ (if1 .left), from .ensures, told replied (from .ensures) (c .enum-told .given .1))
-
-by-one-more-requires : tie.Need-by-one-more-requires
-by-one-more-requires c κs = search needs
-
-multiplied-requires : tie.Need-multiplied-requires
-multiplied-requires c κs = search needs
 
 returns-3 : tie.Need-returns-3
 unfolding outputOf
@@ -50,10 +35,10 @@ pll-output-spec =
     tie.close
     (tie.spec
     returns
-    from-requires
-    enum-known-feeding
-    enum-told
+    (search needs)
+    (search needs)
+    (search needs)
     returns-2
-    by-one-more-requires
-    multiplied-requires
+    (search needs)
+    (search needs)
     returns-3)

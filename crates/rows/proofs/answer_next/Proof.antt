@@ -13,29 +13,11 @@ use Rattle.rows.proofs.answer_next.Tie as tie
 room : (n k : ℕ) (e : List ℕ) → n ≤ k → k ≤ length e → (d : List ℕ) → n ≤ length (e ++ d)
 room n k e h g d = rw length-append (omega arith)
 
-slice-aggregate-read-full : tie.Need-slice-aggregate-read-full
-slice-aggregate-read-full c = search needs
-
-read-full-requires : tie.Need-read-full-requires
-read-full-requires c κs = search needs
-
 returns : tie.Need-returns
 returns c = search needs
 
-array-read-wide : tie.Need-array-read-wide
-array-read-wide c = search needs
-
-wide-requires : tie.Need-wide-requires
-wide-requires c κs = search needs
-
-array-borrow-prefix-input : tie.Need-array-borrow-prefix-input
-array-borrow-prefix-input c = search needs
-
 slice-aggregate-read-full-2 : tie.Need-slice-aggregate-read-full-2
 slice-aggregate-read-full-2 c = sym (length-take-le _ _ (search needs))
-
-read-full-requires-2 : tie.Need-read-full-requires-2
-read-full-requires-2 c κs = search needs
 
 returns-2 : tie.Need-returns-2
 returns-2 c = search needs
@@ -52,9 +34,6 @@ slice-aggregate-answer c =
     let part = read-full2 in
     sym (length-take-le _ _ (room _ (part .result) (part .last .1 .0) (c .before .if2 .left) (part .ensures .0) _))
 
-answer-requires : tie.Need-answer-requires
-answer-requires c κs = search needs
-
 returns-3 : tie.Need-returns-3
 returns-3 c = search needs
 
@@ -62,16 +41,16 @@ pub answer-next-spec : {M : Type 1} → statement M
 answer-next-spec =
     tie.close
     (tie.spec
-    slice-aggregate-read-full
-    read-full-requires
+    (search needs)
+    (search needs)
     returns
-    array-read-wide
-    wide-requires
-    array-borrow-prefix-input
+    (search needs)
+    (search needs)
+    (search needs)
     slice-aggregate-read-full-2
-    read-full-requires-2
+    (search needs)
     returns-2
     array-share-prefix-input
     slice-aggregate-answer
-    answer-requires
+    (search needs)
     returns-3)

@@ -7,15 +7,6 @@ use Rattle.startup.specs.Owed.{owed, four-at-most}
 use Rattle.startup.proofs.call_bound.Statement.{statement}
 use Rattle.startup.proofs.call_bound.Tie as tie
 
-waits-owed-requires : tie.Need-waits-owed-requires
-waits-owed-requires c κs = search needs
-
-enum-known-owed : tie.Need-enum-known-owed
-enum-known-owed c = search needs
-
-enum-told : tie.Need-enum-told
-enum-told c = search needs
-
 returns : tie.Need-returns
 unfolding callBoundOf
 returns c =
@@ -41,4 +32,4 @@ returns-2 c = simp (told replied (c .before .before .before .waits-owed .ensures
 pub call-bound-spec : {M : Type 1} → statement M
 call-bound-spec =
     tie.close
-    (tie.spec waits-owed-requires enum-known-owed enum-told returns mul-calls add-calls returns-2)
+    (tie.spec (search needs) (search needs) (search needs) returns mul-calls add-calls returns-2)

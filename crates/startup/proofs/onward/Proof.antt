@@ -7,9 +7,6 @@ use Rattle.startup.specs.declared.Startup.{Startup}
 use Rattle.startup.proofs.onward.Statement.{statement}
 use Rattle.startup.proofs.onward.Tie as tie
 
-next-requires : tie.Need-next-requires
-next-requires c κs = search needs
-
 returns : tie.Need-returns
 unfolding nextOf
 returns c =
@@ -18,4 +15,4 @@ returns c =
     λ x. ap (λ (n : ℕ). record { startup = at-step n; report = Worked (args .s .step) (args .used) }) ((c .next .ensures) x)
 
 pub onward-spec : {M : Type 1} → statement M
-onward-spec = tie.close (tie.spec next-requires returns)
+onward-spec = tie.close (tie.spec (search needs) returns)

@@ -7,15 +7,9 @@ use Rattle.startup.specs.Owed.{ones-turned-on, four-at-most}
 use Rattle.startup.proofs.waits_owed.Statement.{statement}
 use Rattle.startup.proofs.waits_owed.Tie as tie
 
-named-codes-requires : tie.Need-named-codes-requires
-named-codes-requires c κs = search needs
-
 returns : tie.Need-returns
 unfolding waitsOwedOf
 returns c = simp (sym (c .before .named-codes .ensures), c .if1 .taken)
-
-mask-requires : tie.Need-mask-requires
-mask-requires c κs = search needs
 
 add-waits : tie.Need-add-waits
 add-waits c =
@@ -27,4 +21,4 @@ unfolding waitsOwedOf
 returns-2 c = simp (sym (c .before .before .named-codes .ensures), c .before .if1 .left, c .mask .ensures)
 
 pub waits-owed-spec : {M : Type 1} → statement M
-waits-owed-spec = tie.close (tie.spec named-codes-requires returns mask-requires add-waits returns-2)
+waits-owed-spec = tie.close (tie.spec (search needs) returns (search needs) add-waits returns-2)

@@ -4,27 +4,12 @@ use Rattle.startup.proofs.Cases.{place, wrote-step, wait-step, read-ste
 use Rattle.startup.proofs.work.Statement.{statement}
 use Rattle.startup.proofs.work.Tie as tie
 
-seen-of-requires : tie.Need-seen-of-requires
-seen-of-requires c κs = search needs
-
-perform-requires : tie.Need-perform-requires
-perform-requires c κs = search needs
-
-enum-known-written : tie.Need-enum-known-written
-enum-known-written c = search needs
-
 onward-requires : tie.Need-onward-requires
 onward-requires c κs =
     let args = c .before .before .before .before .before .before .before .args in
     let seen = c .before .before .before .before .seen-of .ensures in
     let did = c .before .before .before .perform .ensures in
     place 1000000 (args .s) (args .reading) (args .promised) seen did (c .before .written .given .1) tt .1
-
-enum-known-met : tie.Need-enum-known-met
-enum-known-met c = search needs
-
-seeing-requires : tie.Need-seeing-requires
-seeing-requires c κs = search needs
 
 waited-requires : tie.Need-waited-requires
 waited-requires c κs =
@@ -37,12 +22,6 @@ waited-requires c κs =
     let did = at-perform .perform .ensures in
     (place 1000000 (args .s) (args .reading) (args .promised) seen did (at-met .met .given .1) tt .1, at-pre .pre)
 
-enum-known-mode : tie.Need-enum-known-mode
-enum-known-mode c = search needs
-
-seeing-requires-2 : tie.Need-seeing-requires-2
-seeing-requires-2 c κs = search needs
-
 read-back-requires : tie.Need-read-back-requires
 read-back-requires c κs =
     let at-mode = c .before .before .before in
@@ -53,18 +32,6 @@ read-back-requires c κs =
     let seen = at-seen-of .seen-of .ensures in
     let did = at-perform .perform .ensures in
     (place 1000000 (args .s) (args .reading) (args .promised) seen did (at-mode .mode .given .1) tt .1, at-pre .pre)
-
-enum-known-same : tie.Need-enum-known-same
-enum-known-same c = search needs
-
-compared-requires : tie.Need-compared-requires
-compared-requires c κs = search needs
-
-enum-told : tie.Need-enum-told
-enum-told c = search needs
-
-handed-back-requires : tie.Need-handed-back-requires
-handed-back-requires c κs = search needs
 
 returns : tie.Need-returns
 returns c =
@@ -123,20 +90,20 @@ pub work-spec : {M : Type 1} → statement M
 work-spec =
     tie.close
     (tie.spec
-    seen-of-requires
-    perform-requires
-    enum-known-written
+    (search needs)
+    (search needs)
+    (search needs)
     onward-requires
-    enum-known-met
-    seeing-requires
+    (search needs)
+    (search needs)
     waited-requires
-    enum-known-mode
-    seeing-requires-2
+    (search needs)
+    (search needs)
     read-back-requires
-    enum-known-same
-    compared-requires
-    enum-told
-    handed-back-requires
+    (search needs)
+    (search needs)
+    (search needs)
+    (search needs)
     returns
     returns-2
     returns-3

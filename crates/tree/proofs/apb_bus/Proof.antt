@@ -10,18 +10,6 @@ use Rattle.tree.specs.Tree.{busOf, timerClock}
 use Rattle.tree.proofs.apb_bus.Statement.{statement}
 use Rattle.tree.proofs.apb_bus.Tie as tie
 
-apb-requires : tie.Need-apb-requires
-apb-requires c κs = search needs
-
-enum-known-divisor : tie.Need-enum-known-divisor
-enum-known-divisor c = search needs
-
-enum-told : tie.Need-enum-told
-enum-told c = search needs
-
-refusal-requires : tie.Need-refusal-requires
-refusal-requires c κs = search needs
-
 returns : tie.Need-returns
 unfolding busOf
 returns c =
@@ -31,18 +19,6 @@ returns c =
       c .before .enum-told .given .1,
       told replied (apb .ensures) (c .before .enum-told .given .1),
     )
-
-by-apb-requires : tie.Need-by-apb-requires
-by-apb-requires c κs = search needs
-
-enum-known-divided : tie.Need-enum-known-divided
-enum-known-divided c = search needs
-
-enum-told-2 : tie.Need-enum-told-2
-enum-told-2 c = search needs
-
-refusal-requires-2 : tie.Need-refusal-requires-2
-refusal-requires-2 c κs = search needs
 
 returns-2 : tie.Need-returns-2
 unfolding busOf
@@ -77,9 +53,6 @@ returns-3 : tie.Need-returns-3
 unfolding timerClock
 returns-3 c = simp (from-divided (c .before .before), eq-eqb _ _ (c .if1 .taken))
 
-doubling-requires : tie.Need-doubling-requires
-doubling-requires c κs = search needs
-
 mul-t13 : tie.Need-mul-t13
 mul-t13 c =
     let at-if1 = c .before .before in
@@ -111,18 +84,18 @@ pub apb-bus-spec : {M : Type 1} → statement M
 apb-bus-spec =
     tie.close
     (tie.spec
-    apb-requires
-    enum-known-divisor
-    enum-told
-    refusal-requires
+    (search needs)
+    (search needs)
+    (search needs)
+    (search needs)
     returns
-    by-apb-requires
-    enum-known-divided
-    enum-told-2
-    refusal-requires-2
+    (search needs)
+    (search needs)
+    (search needs)
+    (search needs)
     returns-2
     returns-3
-    doubling-requires
+    (search needs)
     mul-t13
     returns-4
     returns-5)

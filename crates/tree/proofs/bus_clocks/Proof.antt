@@ -5,18 +5,6 @@ use Rattle.tree.specs.Tree.{clocksOf}
 use Rattle.tree.proofs.bus_clocks.Statement.{statement}
 use Rattle.tree.proofs.bus_clocks.Tie as tie
 
-by-ahb-requires : tie.Need-by-ahb-requires
-by-ahb-requires c κs = search needs
-
-enum-known-divided : tie.Need-enum-known-divided
-enum-known-divided c = search needs
-
-enum-told : tie.Need-enum-told
-enum-told c = search needs
-
-refusal-requires : tie.Need-refusal-requires
-refusal-requires c κs = search needs
-
 returns : tie.Need-returns
 unfolding clocksOf
 returns c =
@@ -26,9 +14,6 @@ returns c =
       c .before .enum-told .given .1,
       told replied (by-ahb .ensures) (c .before .enum-told .given .1),
     )
-
-below-hclk-requires : tie.Need-below-hclk-requires
-below-hclk-requires c κs = search needs
 
 returns-2 : tie.Need-returns-2
 unfolding clocksOf
@@ -41,10 +26,10 @@ pub bus-clocks-spec : {M : Type 1} → statement M
 bus-clocks-spec =
     tie.close
     (tie.spec
-    by-ahb-requires
-    enum-known-divided
-    enum-told
-    refusal-requires
+    (search needs)
+    (search needs)
+    (search needs)
+    (search needs)
     returns
-    below-hclk-requires
+    (search needs)
     returns-2)

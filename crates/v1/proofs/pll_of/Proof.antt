@@ -6,24 +6,6 @@ use Rattle.v1.specs.V1.{pllOf}
 use Rattle.v1.proofs.pll_of.Statement.{statement}
 use Rattle.v1.proofs.pll_of.Tie as tie
 
-enum-told : tie.Need-enum-told
-enum-told c = search needs
-
-enum-known-pll : tie.Need-enum-known-pll
-enum-known-pll c = search needs
-
-less-of-requires : tie.Need-less-of-requires
-less-of-requires c κs = search needs
-
-pll-output-requires : tie.Need-pll-output-requires
-pll-output-requires c κs = search needs
-
-enum-known-n : tie.Need-enum-known-n
-enum-known-n c = search needs
-
-enum-known-hz : tie.Need-enum-known-hz
-enum-known-hz c = search needs
-
 returns : tie.Need-returns
 unfolding pllOf
 returns c = simp (c .enum-told .given .1)
@@ -48,12 +30,12 @@ pub pll-of-spec : {M : Type 1} → statement M
 pll-of-spec =
     tie.close
     (tie.spec
-    enum-told
-    enum-known-pll
-    less-of-requires
-    pll-output-requires
-    enum-known-n
-    enum-known-hz
+    (search needs)
+    (search needs)
+    (search needs)
+    (search needs)
+    (search needs)
+    (search needs)
     returns
     returns-2
     returns-3)

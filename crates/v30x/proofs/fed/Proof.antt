@@ -6,18 +6,6 @@ use Rattle.v30x.specs.V30x.{fedOf}
 use Rattle.v30x.proofs.fed.Statement.{statement}
 use Rattle.v30x.proofs.fed.Tie as tie
 
-pll-output-requires : tie.Need-pll-output-requires
-pll-output-requires c κs = search needs
-
-enum-known-n : tie.Need-enum-known-n
-enum-known-n c = search needs
-
-enum-known-hz : tie.Need-enum-known-hz
-enum-known-hz c = search needs
-
-from-hsi-requires : tie.Need-from-hsi-requires
-from-hsi-requires c κs = search needs
-
 returns : tie.Need-returns
 unfolding fedOf
 returns c = simp (told replied (c .before .before .before .pll-output .ensures) (c .before .n .given .1))
@@ -44,10 +32,10 @@ pub fed-spec : {M : Type 1} → statement M
 fed-spec =
     tie.close
     (tie.spec
-    pll-output-requires
-    enum-known-n
-    enum-known-hz
-    from-hsi-requires
+    (search needs)
+    (search needs)
+    (search needs)
+    (search needs)
     returns
     returns-2
     returns-3)

@@ -7,27 +7,6 @@ use Rattle.v30x.specs.V30x.{usbhsOf}
 use Rattle.v30x.proofs.usbhs.Statement.{statement}
 use Rattle.v30x.proofs.usbhs.Tie as tie
 
-enum-told : tie.Need-enum-told
-enum-told c = search needs
-
-enum-known-hspll : tie.Need-enum-known-hspll
-enum-known-hspll c = search needs
-
-from-requires : tie.Need-from-requires
-from-requires c κs = search needs
-
-enum-known-n : tie.Need-enum-known-n
-enum-known-n c = search needs
-
-enum-known-hz : tie.Need-enum-known-hz
-enum-known-hz c = search needs
-
-by-one-more-requires : tie.Need-by-one-more-requires
-by-one-more-requires c κs = search needs
-
-reference-allowed-requires : tie.Need-reference-allowed-requires
-reference-allowed-requires c κs = search needs
-
 returns : tie.Need-returns
 unfolding usbhsOf
 returns c = simp (c .enum-told .given .1)
@@ -64,13 +43,13 @@ pub usbhs-spec : {M : Type 1} → statement M
 usbhs-spec =
     tie.close
     (tie.spec
-    enum-told
-    enum-known-hspll
-    from-requires
-    enum-known-n
-    enum-known-hz
-    by-one-more-requires
-    reference-allowed-requires
+    (search needs)
+    (search needs)
+    (search needs)
+    (search needs)
+    (search needs)
+    (search needs)
+    (search needs)
     returns
     returns-2
     returns-3

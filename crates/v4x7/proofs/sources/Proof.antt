@@ -6,24 +6,12 @@ use Rattle.v4x7.specs.Check.{sourcesOf, ethOf, usbHsOf}
 use Rattle.v4x7.proofs.sources.Statement.{statement}
 use Rattle.v4x7.proofs.sources.Tie as tie
 
-rng-requires : tie.Need-rng-requires
-rng-requires c κs = search needs
-
-enum-known-n : tie.Need-enum-known-n
-enum-known-n c = search needs
-
 returns : tie.Need-returns
 unfolding sourcesOf
 returns c = simp (told done (c .before .before .before .rng .ensures) (c .before .n .given .1))
 
 enum-told : tie.Need-enum-told
 enum-told c = search needs
-
-hse-present-requires : tie.Need-hse-present-requires
-hse-present-requires c κs = search needs
-
-enum-known-n-2 : tie.Need-enum-known-n-2
-enum-known-n-2 c = search needs
 
 returns-2 : tie.Need-returns-2
 unfolding sourcesOf
@@ -35,18 +23,6 @@ returns-2 c =
       told done (rng .ensures) (enum-told .given .1),
       told done (hse-present .ensures) (c .before .n2 .given .1),
     )
-
-enum-told-2 : tie.Need-enum-told-2
-enum-told-2 c = search needs
-
-main-pll-requires : tie.Need-main-pll-requires
-main-pll-requires c κs = search needs
-
-enum-known-main : tie.Need-enum-known-main
-enum-known-main c = search needs
-
-enum-told-3 : tie.Need-enum-told-3
-enum-told-3 c = search needs
 
 returns-3 : tie.Need-returns-3
 unfolding sourcesOf
@@ -83,12 +59,6 @@ from-main c =
       told replied (at-main-pll .main-pll .ensures) (c .main .given .1),
     )
 
-eth-requires : tie.Need-eth-requires
-eth-requires c κs = search needs
-
-enum-known-n-3 : tie.Need-enum-known-n-3
-enum-known-n-3 c = search needs
-
 returns-4 : tie.Need-returns-4
 returns-4 c =
     let at-eth = c .before .before .before in
@@ -96,15 +66,6 @@ returns-4 c =
       from-main (at-eth .before .before),
       told done (at-eth .eth .ensures) (c .before .n3 .given .1),
     )
-
-enum-told-4 : tie.Need-enum-told-4
-enum-told-4 c = search needs
-
-usbhs-requires : tie.Need-usbhs-requires
-usbhs-requires c κs = search needs
-
-enum-known-n-4 : tie.Need-enum-known-n-4
-enum-known-n-4 c = search needs
 
 returns-5 : tie.Need-returns-5
 returns-5 c =
@@ -116,9 +77,6 @@ returns-5 c =
       told done (at-eth .eth .ensures) (at-enum-told4 .enum-told4 .given .1),
       told done (at-usbhs .usbhs .ensures) (c .before .n4 .given .1),
     )
-
-enum-told-5 : tie.Need-enum-told-5
-enum-told-5 c = search needs
 
 returns-6 : tie.Need-returns-6
 returns-6 c =
@@ -135,24 +93,24 @@ pub sources-spec : {M : Type 1} → statement M
 sources-spec =
     tie.close
     (tie.spec
-    rng-requires
-    enum-known-n
+    (search needs)
+    (search needs)
     returns
     enum-told
-    hse-present-requires
-    enum-known-n-2
+    (search needs)
+    (search needs)
     returns-2
-    enum-told-2
-    main-pll-requires
-    enum-known-main
-    enum-told-3
+    (search needs)
+    (search needs)
+    (search needs)
+    (search needs)
     returns-3
-    eth-requires
-    enum-known-n-3
+    (search needs)
+    (search needs)
     returns-4
-    enum-told-4
-    usbhs-requires
-    enum-known-n-4
+    (search needs)
+    (search needs)
+    (search needs)
     returns-5
-    enum-told-5
+    (search needs)
     returns-6)

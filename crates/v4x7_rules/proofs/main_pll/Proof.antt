@@ -15,15 +15,6 @@ returns : tie.Need-returns
 unfolding mainPllOf
 returns c = simp (le-leb _ _ (c .if1 .taken))
 
-pll-input-requires : tie.Need-pll-input-requires
-pll-input-requires c κs = search needs
-
-enum-known-input : tie.Need-enum-known-input
-enum-known-input c = search needs
-
-enum-told : tie.Need-enum-told
-enum-told c = search needs
-
 returns-2 : tie.Need-returns-2
 unfolding mainPllOf
 returns-2 c =
@@ -34,12 +25,6 @@ returns-2 c =
       pll-input .ensures,
       told replied (pll-input .ensures) (c .enum-told .given .1),
     )
-
-array-read-product : tie.Need-array-read-product
-array-read-product c = search needs
-
-product-requires : tie.Need-product-requires
-product-requires c κs = search needs
 
 -- what the definition leaves to do where the output is known
 from-product : (c : tie.After-product)
@@ -74,12 +59,12 @@ main-pll-spec =
     tie.close
     (tie.spec
     returns
-    pll-input-requires
-    enum-known-input
-    enum-told
+    (search needs)
+    (search needs)
+    (search needs)
     returns-2
-    array-read-product
-    product-requires
+    (search needs)
+    (search needs)
     returns-3
     cast-t15
     returns-4)

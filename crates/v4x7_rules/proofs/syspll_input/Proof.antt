@@ -8,9 +8,6 @@ returns : tie.Need-returns
 unfolding sysPllOf
 returns c = simp (le-leb _ _ (c .if1 .taken))
 
-mul-t6 : tie.Need-mul-t6
-mul-t6 c = search needs
-
 returns-2 : tie.Need-returns-2
 unfolding sysPllOf
 returns-2 c = simp (lt-leb _ _ (c .before .if1 .left), c .match .keys1)
@@ -45,4 +42,4 @@ returns-7 c =
 
 pub syspll-input-spec : {M : Type 1} → statement M
 syspll-input-spec =
-    tie.close (tie.spec returns mul-t6 returns-2 returns-3 returns-4 returns-5 returns-6 returns-7)
+    tie.close (tie.spec returns (search needs) returns-2 returns-3 returns-4 returns-5 returns-6 returns-7)

@@ -5,32 +5,11 @@ use lib.Seq.{length-take-le}
 use Rattle.answers.proofs.codec.write_image.Statement.{statement}
 use Rattle.answers.proofs.codec.write_image.Tie as tie
 
-element-copy-out-length : tie.Need-element-copy-out-length
-element-copy-out-length c = search needs
-
-length-requires : tie.Need-length-requires
-length-requires c κs = search needs
-
-element-copy-out-lent : tie.Need-element-copy-out-lent
-element-copy-out-lent c = search needs
-
-fields-requires : tie.Need-fields-requires
-fields-requires c κs = search needs
-
-array-borrow-prefix-lent : tie.Need-array-borrow-prefix-lent
-array-borrow-prefix-lent c = search needs
-
 slice-aggregate-write-image : tie.Need-slice-aggregate-write-image
 slice-aggregate-write-image c =
     let length = c .before .before .before .length in
     let fill = getD (c .before .before .before .before .before .args .q .now) 35 0 in
     sym (length-take-le (length .result) (replicate 32 fill) (length .ensures))
-
-write-image-requires : tie.Need-write-image-requires
-write-image-requires c κs = search needs
-
-written-requires : tie.Need-written-requires
-written-requires c κs = search needs
 
 returns : tie.Need-returns
 returns c = search needs
@@ -39,12 +18,12 @@ pub write-image-spec : {M : Type 1} → statement M
 write-image-spec =
     tie.close
     (tie.spec
-    element-copy-out-length
-    length-requires
-    element-copy-out-lent
-    fields-requires
-    array-borrow-prefix-lent
+    (search needs)
+    (search needs)
+    (search needs)
+    (search needs)
+    (search needs)
     slice-aggregate-write-image
-    write-image-requires
-    written-requires
+    (search needs)
+    (search needs)
     returns)

@@ -17,36 +17,6 @@ slice-aggregate-read-profile c =
     let h : 10 ≤ length now = omega arith in
     sym (length-take-le 10 now h)
 
-read-profile-requires : tie.Need-read-profile-requires
-read-profile-requires c κs = search needs
-
-enum-known-n : tie.Need-enum-known-n
-enum-known-n c = search needs
-
-enum-known-config : tie.Need-enum-known-config
-enum-known-config c = search needs
-
-sub-read-image : tie.Need-sub-read-image
-sub-read-image c = search needs
-
-part-read-image-start : tie.Need-part-read-image-start
-part-read-image-start c = search needs
-
-part-read-image-end : tie.Need-part-read-image-end
-part-read-image-end c = search needs
-
-read-image-requires : tie.Need-read-image-requires
-read-image-requires c κs = search needs
-
-enum-known-n-2 : tie.Need-enum-known-n-2
-enum-known-n-2 c = search needs
-
-enum-known-fields : tie.Need-enum-known-fields
-enum-known-fields c = search needs
-
-standing-requires : tie.Need-standing-requires
-standing-requires c κs = search needs
-
 returns : tie.Need-returns
 unfolding keptOf
 returns c = simp (told profileRead (c .before .before .before .read-profile .ensures) (c .before .n .given .1))
@@ -79,16 +49,16 @@ kept-spec =
     tie.close
     (tie.spec
     slice-aggregate-read-profile
-    read-profile-requires
-    enum-known-n
-    enum-known-config
-    sub-read-image
-    part-read-image-start
-    part-read-image-end
-    read-image-requires
-    enum-known-n-2
-    enum-known-fields
-    standing-requires
+    (search needs)
+    (search needs)
+    (search needs)
+    (search needs)
+    (search needs)
+    (search needs)
+    (search needs)
+    (search needs)
+    (search needs)
+    (search needs)
     returns
     returns-2
     returns-3)

@@ -8,15 +8,6 @@ use Rattle.capi_startup.proofs.kept.store.Tie as tie
 returns : tie.Need-returns
 returns c = short 32 (placeOf (c .before .before .args .x)) (c .before .before .args .place .now) (c .if1 .taken)
 
-slice-aggregate-write-profile : tie.Need-slice-aggregate-write-profile
-slice-aggregate-write-profile c = search needs
-
-write-profile-requires : tie.Need-write-profile-requires
-write-profile-requires c κs = search needs
-
-enum-known-n : tie.Need-enum-known-n
-enum-known-n c = search needs
-
 returns-2 : tie.Need-returns-2
 returns-2 c =
     let at-write-profile = c .before .before .before .before in
@@ -24,18 +15,6 @@ returns-2 c =
     let at-args = at-if1 .before .before in
     no-profile (at-args .args .x) (at-args .args .place .now) _ _ (at-if1 .if1 .left) (at-write-profile .write-profile .ensures) _
     (c .before .n .given .1)
-
-enum-told : tie.Need-enum-told
-enum-told c = search needs
-
-slice-aggregate-write-image : tie.Need-slice-aggregate-write-image
-slice-aggregate-write-image c = search needs
-
-write-image-requires : tie.Need-write-image-requires
-write-image-requires c κs = search needs
-
-enum-known-n-2 : tie.Need-enum-known-n-2
-enum-known-n-2 c = search needs
 
 returns-3 : tie.Need-returns-3
 returns-3 c =
@@ -46,24 +25,6 @@ returns-3 c =
     let at-args = at-if1 .before .before in
     no-image (at-args .args .x) (at-args .args .place .now) _ _ (at-if1 .if1 .left) (at-write-profile .write-profile .ensures)
     (at-enum-told .enum-told .given .1) _ _ (at-write-image .write-image .ensures) _ (c .before .n2 .given .1)
-
-enum-told-2 : tie.Need-enum-told-2
-enum-told-2 c = search needs
-
-tail-requires : tie.Need-tail-requires
-tail-requires c κs = search needs
-
-join-requires : tie.Need-join-requires
-join-requires c κs = search needs
-
-slice-aggregate-give-bytes : tie.Need-slice-aggregate-give-bytes
-slice-aggregate-give-bytes c = search needs
-
-give-bytes-requires : tie.Need-give-bytes-requires
-give-bytes-requires c κs = search needs
-
-same-length : tie.Need-same-length
-same-length c = search needs
 
 returns-4 : tie.Need-returns-4
 returns-4 c =
@@ -85,19 +46,19 @@ store-spec =
     tie.close
     (tie.spec
     returns
-    slice-aggregate-write-profile
-    write-profile-requires
-    enum-known-n
+    (search needs)
+    (search needs)
+    (search needs)
     returns-2
-    enum-told
-    slice-aggregate-write-image
-    write-image-requires
-    enum-known-n-2
+    (search needs)
+    (search needs)
+    (search needs)
+    (search needs)
     returns-3
-    enum-told-2
-    tail-requires
-    join-requires
-    slice-aggregate-give-bytes
-    give-bytes-requires
-    same-length
+    (search needs)
+    (search needs)
+    (search needs)
+    (search needs)
+    (search needs)
+    (search needs)
     returns-4)

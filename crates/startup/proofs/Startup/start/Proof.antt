@@ -7,24 +7,9 @@ use Rattle.startup.specs.Call.{startOf}
 use Rattle.startup.proofs.Startup.start.Statement.{statement}
 use Rattle.startup.proofs.Startup.start.Tie as tie
 
-in-width-requires : tie.Need-in-width-requires
-in-width-requires c κs = search needs
-
 returns : tie.Need-returns
 unfolding startOf
 returns c = simp (sym (c .before .in-width .ensures), not-true (c .before .in-width .result) (c .if1 .taken))
-
-clocks-requires : tie.Need-clocks-requires
-clocks-requires c κs = search needs
-
-enum-told : tie.Need-enum-told
-enum-told c = search needs
-
-enum-told-2 : tie.Need-enum-told-2
-enum-told-2 c = search needs
-
-refused-requires : tie.Need-refused-requires
-refused-requires c κs = search needs
 
 returns-2 : tie.Need-returns-2
 unfolding startOf
@@ -56,11 +41,11 @@ pub start-spec : {M : Type 1} → statement M
 start-spec =
     tie.close
     (tie.spec
-    in-width-requires
+    (search needs)
     returns
-    clocks-requires
-    enum-told
-    enum-told-2
-    refused-requires
+    (search needs)
+    (search needs)
+    (search needs)
+    (search needs)
     returns-2
     returns-3)

@@ -8,43 +8,16 @@ use Rattle.startup.proofs.Cases.{call-code, call-by, call-over, call-of
 use Rattle.startup.proofs.Startup.step.Statement.{statement}
 use Rattle.startup.proofs.Startup.step.Tie as tie
 
-named-codes-requires : tie.Need-named-codes-requires
-named-codes-requires c κs = search needs
-
-in-width-requires : tie.Need-in-width-requires
-in-width-requires c κs = search needs
-
-handed-back-requires : tie.Need-handed-back-requires
-handed-back-requires c κs = search needs
-
 returns : tie.Need-returns
 returns c =
     let at-width = c .before .before in
     c .handed-back .ensures ∙ call-code _ _ (at-width .before .named-codes .ensures) (at-width .in-width .ensures) (c .before .if1 .taken)
-
-enum-known-phase : tie.Need-enum-known-phase
-enum-known-phase c = search needs
 
 returns-2 : tie.Need-returns-2
 returns-2 c =
     let at-if = c .before .before .before in
     let at-width = at-if .before in
     call-over _ _ (at-width .before .named-codes .ensures) (at-width .in-width .ensures) (at-if .if1 .left) _ (c .before .phase .given .1)
-
-enum-told : tie.Need-enum-told
-enum-told c = search needs
-
-clocks-requires : tie.Need-clocks-requires
-clocks-requires c κs = search needs
-
-enum-known-checked : tie.Need-enum-known-checked
-enum-known-checked c = search needs
-
-enum-told-2 : tie.Need-enum-told-2
-enum-told-2 c = search needs
-
-handed-back-requires-2 : tie.Need-handed-back-requires-2
-handed-back-requires-2 c κs = search needs
 
 returns-3 : tie.Need-returns-3
 returns-3 c =
@@ -55,12 +28,6 @@ returns-3 c =
     c .handed-back2 .ensures ∙
     call-by _ _ (at-width .before .named-codes .ensures) (at-width .in-width .ensures) (at-if .if1 .left) (at-phase .enum-told .given .1)
     (at-clocks .clocks .ensures) _ (c .before .enum-told2 .given .1)
-
-listed-requires : tie.Need-listed-requires
-listed-requires c κs = search needs
-
-handed-back-requires-3 : tie.Need-handed-back-requires-3
-handed-back-requires-3 c κs = search needs
 
 returns-4 : tie.Need-returns-4
 unfolding listedOf
@@ -103,20 +70,20 @@ pub step-spec : {M : Type 1} → statement M
 step-spec =
     tie.close
     (tie.spec
-    named-codes-requires
-    in-width-requires
-    handed-back-requires
+    (search needs)
+    (search needs)
+    (search needs)
     returns
-    enum-known-phase
+    (search needs)
     returns-2
-    enum-told
-    clocks-requires
-    enum-known-checked
-    enum-told-2
-    handed-back-requires-2
+    (search needs)
+    (search needs)
+    (search needs)
+    (search needs)
+    (search needs)
     returns-3
-    listed-requires
-    handed-back-requires-3
+    (search needs)
+    (search needs)
     returns-4
     work-requires
     returns-5)

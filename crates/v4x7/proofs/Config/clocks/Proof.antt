@@ -8,24 +8,9 @@ use Rattle.v4x7.specs.Check.{checkOf, adcOf}
 use Rattle.v4x7.proofs.Config.clocks.Statement.{statement}
 use Rattle.v4x7.proofs.Config.clocks.Tie as tie
 
-named-codes-requires : tie.Need-named-codes-requires
-named-codes-requires c κs = search needs
-
 returns : tie.Need-returns
 unfolding checkOf
 returns c = simp (sym (c .before .named-codes .ensures), c .if1 .taken)
-
-sources-requires : tie.Need-sources-requires
-sources-requires c κs = search needs
-
-enum-known-sourced : tie.Need-enum-known-sourced
-enum-known-sourced c = search needs
-
-enum-told : tie.Need-enum-told
-enum-told c = search needs
-
-refusal-requires : tie.Need-refusal-requires
-refusal-requires c κs = search needs
 
 returns-2 : tie.Need-returns-2
 unfolding checkOf
@@ -40,18 +25,6 @@ returns-2 c =
       c .before .enum-told .given .1,
       told replied (sources .ensures) (c .before .enum-told .given .1),
     )
-
-sysclk-requires : tie.Need-sysclk-requires
-sysclk-requires c κs = search needs
-
-enum-known-system : tie.Need-enum-known-system
-enum-known-system c = search needs
-
-enum-told-2 : tie.Need-enum-told-2
-enum-told-2 c = search needs
-
-refusal-requires-2 : tie.Need-refusal-requires-2
-refusal-requires-2 c κs = search needs
 
 returns-3 : tie.Need-returns-3
 unfolding checkOf
@@ -91,27 +64,6 @@ from-system c =
       told replied (at-sysclk .sysclk .ensures) (c .system .given .1),
     )
 
-bus-clocks-requires : tie.Need-bus-clocks-requires
-bus-clocks-requires c κs = search needs
-
-enum-known-n : tie.Need-enum-known-n
-enum-known-n c = search needs
-
-enum-known-clocks : tie.Need-enum-known-clocks
-enum-known-clocks c = search needs
-
-adc-requires : tie.Need-adc-requires
-adc-requires c κs = search needs
-
-enum-known-sampled : tie.Need-enum-known-sampled
-enum-known-sampled c = search needs
-
-enum-told-3 : tie.Need-enum-told-3
-enum-told-3 c = search needs
-
-refusal-requires-3 : tie.Need-refusal-requires-3
-refusal-requires-3 c κs = search needs
-
 returns-4 : tie.Need-returns-4
 returns-4 c =
     let at-adc = c .before .before .before in
@@ -148,25 +100,25 @@ pub clocks-spec : {M : Type 1} → statement M
 clocks-spec =
     tie.close
     (tie.spec
-    named-codes-requires
+    (search needs)
     returns
-    sources-requires
-    enum-known-sourced
-    enum-told
-    refusal-requires
+    (search needs)
+    (search needs)
+    (search needs)
+    (search needs)
     returns-2
-    sysclk-requires
-    enum-known-system
-    enum-told-2
-    refusal-requires-2
+    (search needs)
+    (search needs)
+    (search needs)
+    (search needs)
     returns-3
-    bus-clocks-requires
-    enum-known-n
-    enum-known-clocks
-    adc-requires
-    enum-known-sampled
-    enum-told-3
-    refusal-requires-3
+    (search needs)
+    (search needs)
+    (search needs)
+    (search needs)
+    (search needs)
+    (search needs)
+    (search needs)
     returns-4
     returns-5
     returns-6)
