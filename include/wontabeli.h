@@ -1,21 +1,22 @@
-/* The clock library's calls for C99 and C++.
+/* The clock library's calls for C99 and C++, on x86-64 hosts. The archive (include/archive) is not for the chips.
  *
- * Every call returns a number: 0, or the refusal that comes first in document 01's order (wontabeli_numbers.h, docs/REFUSALS.md). One thing is told
- * otherwise: wontabeli_step returns 0 also where the startup ends by 21, 22 or 23, and byte 27 of its place says so.
+ * Every call returns a number: 0, or a refusal (WONTABELI_RNG_WITHOUT_USBHS and so on; docs/REFUSALS.md). Of several reasons it returns the first, in
+ * a fixed order. wontabeli_refusal_text(number) is its sentence. One call is different: wontabeli_step returns 0 also where the startup ends by 21,
+ * 22 or 23, and byte 27 of its place then says so.
+ *
  * What a call gives goes into memory that the caller lends, at its start: frequencies as words of 32 bits, records as bytes. After a refusal
- * nothing that was lent is touched; after a call that is not refused what is beyond the record isn't. A number of several bytes in a record has
- * the most significant byte first. A byte that says yes or no is 1 or 0.
+ * nothing that was lent is touched; after a call that is not refused, nothing beyond the record is. A number of several bytes in a record has the
+ * most significant byte first. A byte that says yes or no is 1 or 0.
  *
  * A pointer is valid and aligned for its type and its length, and never null, also where its length is 0; lent memory overlaps nothing else that
- * the call is handed. Lengths are never trusted otherwise: one that doesn't fit is refused. A length that is lent for output is tested first (32).
- * Lengths of words count words; an output without a length is one word.
+ * the call is handed. Lengths are tested: one that doesn't fit is refused, and one that is lent for output is tested first (32). Lengths of words
+ * count words; an output without a length is one word.
  *
- * No call keeps a pointer, allocates, or has a state. Calls may run at the same time, in threads or interrupts, each on memory that no other
- * uses meanwhile. The archive (include/archive) is for x86-64 hosts, not for the chips.
+ * No call keeps a pointer, allocates, or has a state. Calls may run at the same time, in threads or interrupts, each on memory that no other uses
+ * meanwhile.
  *
- * Sizes are in wontabeli_numbers.h, and so are the places in what is given, in the fields of a profile and an image, and in a startup's place.
- * The places in the records of V1, L1 and V30x stand below, at their calls. Names of sizes and places are written here without their
- * WONTABELI_. docs/FORMATS.md says what each code means.
+ * Names are written here without their WONTABELI_. wontabeli_numbers.h has them: sizes, the places in each record, and the codes that have a name,
+ * as SYSTEM_CLOCK_PLL or V4X7_AHB_DIV2. docs/FORMATS.md says what the fields are.
  */
 #ifndef WONTABELI_H
 #define WONTABELI_H
@@ -23,6 +24,7 @@
 #include <stddef.h>
 #include <stdint.h>
 #include "wontabeli_numbers.h"
+#include "wontabeli_refusals.h"
 
 #ifdef __cplusplus
 extern "C" {
@@ -31,20 +33,22 @@ extern "C" {
 /* ---- CH32V4x7: the check, the decoder, the queries ---- */
 
 /* Checks a profile of ten bytes. Gives CHECK_WORDS words: SYSCLK, HCLK, PCLK1, PCLK2, the timers' clocks of PCLK1 and PCLK2, the ADC's frequency.
- * Refused by 32, 29 (profile_len not 10), 30, then by the check's 1 to 16. */
+ * Refused by 32, 29 (profile_len not 10), 30, then by the check's 1 to 16 (docs/REFUSALS.md has their order). */
 uint8_t wontabeli_check(const uint8_t *profile, size_t profile_len, uint32_t *out, size_t out_len);
 
-/* Decodes an image of eight bytes, with HSE's frequency in Hz. 0 means that there is no HSE, here and in the decoders below: they can't be handed an
- * HSE of 0 Hz. Gives CLOCKS_WORDS words, the clocks in the same order.
+/* Decodes an image of eight bytes, with HSE's frequency in Hz; 0 means that there is no HSE, here and in the decoders below. Gives CLOCKS_WORDS
+ * words, the clocks in the same order.
  * Refused by 32, 31 (image_len not 8, or filling), then by 3, 4, 5, 6, 8, 12, 17, 18, 19, 20. */
 uint8_t wontabeli_decode(const uint8_t *image, size_t image_len, uint32_t hse, uint32_t *out, size_t out_len);
 
-/* The ADC's frequency by an image, and the RNG source's, with the SYSCLK in Hz. Gives PAIR_WORDS words: 1 and the frequency; or zeros where the PLL
- * that it runs from is not ready. Refused by 32, 31. */
+/* The frequency that an image gives the ADC, and the RNG's source, with SYSCLK in Hz. Gives PAIR_WORDS words: 1 and the frequency; or two zeros
+ * where the PLL that it runs from is not ready. Refused by 32, 31. */
 uint8_t wontabeli_adc(const uint8_t *image, size_t image_len, uint32_t sysclk, uint32_t *out, size_t out_len);
 uint8_t wontabeli_rng(const uint8_t *image, size_t image_len, uint32_t sysclk, uint32_t *out, size_t out_len);
 
-/* ---- CH32V4x7: profiles and images, and their fields one a byte (WONTABELI_PROFILE_.., WONTABELI_IMAGE_..) ---- */
+/* ---- CH32V4x7: profiles and images, and their fields, a byte each ----
+ *
+ * PROFILE_.. and IMAGE_.. are the fields' places. The codes of a profile's fields are SYSTEM_CLOCK_.., APB_.. and V4X7_... */
 
 /* The fields of a profile, PROFILE_FIELDS bytes. Refused by 32, 29, 30. */
 uint8_t wontabeli_read_profile(const uint8_t *profile, size_t profile_len, uint8_t *out, size_t out_len);
@@ -61,53 +65,59 @@ uint8_t wontabeli_write_image(const uint8_t *fields, size_t fields_len, uint8_t 
 
 /* ---- CH32V4x7: the startup ----
  *
- * The host keeps a startup in a place of PLACE_SIZE bytes, which it hands to each call unchanged, until byte 27 is not 0:
+ * The host keeps a startup in a place of PLACE_SIZE bytes. It hands the place to each call unchanged, until byte 27 is not PHASE_GOING:
  *   0..9    the profile
  *   10..17  the image: the fields that the host writes to the chip
  *   18      the step whose turn it is
  *   19..22  the unmet readings of its wait
  *   23..26  all readings used
- *   27      0 going; 1 over and running; 21, 22 or 23 over by that refusal
- *   28      how the last call went: WORKED (the step is worked), WAITING (the reading did not meet the step's wait), RUNNING (over: the clocks run
- *           as the check promised), FAILED (over, by the refusal in byte 29)
+ *   27      whether it is over: PHASE_GOING (call again), PHASE_RUNNING (over: the clocks run as the check promised), or the refusal that ended
+ *           it: 21, 22 or 23
+ *   28      what the last call reports: REPORT_WORKED (the step is worked), REPORT_WAITING (the reading did not meet the step's wait),
+ *           REPORT_RUNNING (over: the clocks run as the check promised), REPORT_FAILED (over, by the refusal in byte 29)
  *   29      its refusal: 0, 21, 22 or 23
  *   30      the step that it names; 0 before the first call and with 23
  *   31      zero
- * A call doesn't look at the last four.
+ * A call doesn't look at bytes 28 to 31. PHASE_.. are values of byte 27 alone, REPORT_.. of byte 28 alone.
  *
  * After each call that returns 0 the host writes to the chip, in this order:
  *   1. the image's fields that changed, but never the ready bits and SWS, which only the chip writes. Where byte 30 is 20: SCKMOD, LOCK and FLOCK
  *      in one write, changed or not, since the keys have opened the locks;
- *   2. where byte 28 is WORKED and byte 30 is 19: the four keys (wontabeli_flash_key).
- * LOCK and FLOCK, written again after the keys, lock the flash, and step 21 ends by 22. docs/STARTUP.md has the steps and a driving loop. */
+ *   2. where byte 28 is REPORT_WORKED and byte 30 is 19: the four keys (wontabeli_flash_key).
+ * LOCK and FLOCK, written again after the keys, would lock the flash, and step 21 would end by 22. docs/STARTUP.md has the steps and a driving
+ * loop. */
 
 /* Starts a startup with a profile and the image of the registers as they are. It works no step.
  * Refused by 32, 29, 30, 31, then by the check's 1 to 16. */
 uint8_t wontabeli_start(const uint8_t *profile, size_t profile_len, const uint8_t *image, size_t image_len, uint8_t *place, size_t place_len);
 
 /* One call: one step's work done or one reading used; the place says how it went. It returns 0 also where the startup ends by 21, 22 or 23: call
- * until byte 27 is not 0. After the end it repeats its last answer. The reading is the sum of HSIRDY, HSERDY, PLLRDY, USBHS_PLLRDY and
+ * until byte 27 is not PHASE_GOING. After the end it repeats its last answer. The reading is the sum of HSIRDY, HSERDY, PLLRDY, USBHS_PLLRDY and
  * ETH_PLLRDY where they are set, SWS times its value and SCKMOD times its value; bits above are not looked at.
- * Refused by 32; by 30, 31 or 28 where no starting leads to these bytes, which then stay. */
+ * Refused by 32; by 30 or 31 where the place's profile or image can't be read; by 28 where byte 27 has none of its values or, in a startup that is
+ * not over, the check refuses the profile, the step is not one of the profile's, the unmet readings pass 999,999, or the used ones 8,000,001. The
+ * place then stays as it was. Other damage is not noticed: the startup is worked as it stands. */
 uint8_t wontabeli_step(uint8_t *place, size_t place_len, uint16_t reading);
 
-/* The keys that the host writes when a call names step 19, in their order: positions 0 to 3. Gives PAIR_WORDS words: 0 (KEYR) or 1 (MODEKEYR), and
- * the key. Refused by 32; by 28 above 3. */
+/* The keys that the host writes when a call names step 19, in their order: positions 0 to 3. Gives PAIR_WORDS words: KEYR or MODEKEYR, and the key.
+ * Refused by 32; by 28 above 3. */
 uint8_t wontabeli_flash_key(uint8_t position, uint32_t *out, size_t out_len);
 
-/* How many waits a profile's startup has, and within how many calls it is over. The check is not asked: a profile that it refuses has numbers too.
- * Refused by 29, 30. */
+/* How many waits a profile's startup has, and within how many calls it is over. A profile that the check refuses has these numbers too. Refused by
+ * 29, 30. */
 uint8_t wontabeli_waits_owed(const uint8_t *profile, size_t profile_len, uint32_t *out);
 uint8_t wontabeli_call_bound(const uint8_t *profile, size_t profile_len, uint32_t *out);
 
-/* ---- CH32V1 (part 0) and CH32L1 (part 1) ----
+/* ---- CH32V1 (V1_PART_V1) and CH32L1 (V1_PART_L1) ----
  *
- * A configuration has V1_CONFIG_SIZE bytes: 0 HSE present, 1 bypass, 2..5 its frequency, 6 the system clock's code, 7 PLL from HSE, 8 PLL present,
- * 9 its input halved, 10 its multiplier's code, 11 AHB, 12 APB1, 13 APB2. What belongs to an absent part is zero.
- * The fields of the registers have V1_FIELDS_SIZE: 0 SWS, 1 PLLSRC, 2 PLLXTPRE, 3 PLLMUL, 4 HPRE, 5 PPRE1, 6 PPRE2, 7 the HSI predivider bit (1: by 1,
- * 0: by 2). All three calls are refused by 32, then by 28: another part or length, a byte neither yes nor no, an absent part's not zero, a code too wide. */
+ * A configuration has V1_CONFIG_SIZE bytes, at the places V1_CONFIG_..; the multiplier is a V1_PLL_.. code, AHB a V1_AHB_.. code. Where HSE or the
+ * PLL is absent, its other bytes are zero; PLL_FROM_HSE is free.
+ * The registers' fields have V1_FIELDS_SIZE bytes, at the places V1_FIELDS_..; the HSI predivider bit is 1 for HSI by 1, and 0 for HSI by 2.
+ * All three calls are refused by 32, then by 28: another part or length, a byte that is neither yes nor no, a byte of an absent part that is not
+ * zero, a code too wide for its field. */
 
-/* Checks a configuration. Gives CHECK_WORDS words: the clocks, and twice the USB divisor for 48 MHz, or 0 where there is none. Then refused by 3, 24, 20, 26. */
+/* Checks a configuration. Gives CHECK_WORDS words: the clocks, and twice the divisor that makes USB's 48 MHz of the PLL's output (3 is 1.5), or 0
+ * where there is none. Then refused by 3, 24, 20, 3, 26. */
 uint8_t wontabeli_v1_check(uint8_t part, const uint8_t *config, size_t config_len, uint32_t *out, size_t out_len);
 
 /* Decodes fields, with HSE's frequency in Hz, or 0 where there is no HSE. Gives CLOCKS_WORDS words. Then refused by 3, 24. (A configuration that
@@ -115,25 +125,25 @@ uint8_t wontabeli_v1_check(uint8_t part, const uint8_t *config, size_t config_le
 uint8_t wontabeli_v1_decode(uint8_t part, const uint8_t *fields, size_t fields_len, uint32_t hse, uint32_t *out, size_t out_len);
 
 /* The fields that starting a configuration leaves, over earlier fields: V1_FIELDS_SIZE bytes. They are the fields at the end, and not a list of
- * writes: byte 0 is what SWS then reads. Then refused as the check is. */
+ * writes: SWS is what it then reads as. Then refused as the check is. */
 uint8_t wontabeli_v1_init_fields(uint8_t part, const uint8_t *config, size_t config_len, const uint8_t *earlier, size_t earlier_len, uint8_t *out, size_t out_len);
 
 /* ---- CH32V30x ----
  *
- * A configuration has V30X_CONFIG_SIZE bytes: 0 HSE present, 1 bypass, 2..5 its frequency, 6 the system clock's code, 7 PLL source (0 HSI, 1 HSE,
- * 2 PLL2), 8 PLL present, 9 predivider less one, 10 multiplier's code, 11 PLL2 or PLL3 asked for, 12 AHB, 13 APB1, 14 APB2, 15 USBHS from HSE,
- * 16 USBHS present, 17 its prescaler less one. What belongs to an absent part is zero.
- * The fields of the registers have V30X_FIELDS_SIZE: 0 SWS, 1 PLLSRC, 2 PREDIV1, 3 PREDIV1SRC, 4 PLLMUL, 5 HPRE, 6 PPRE1, 7 PPRE2, 8 the HSI predivider
- * bit. Refused by 32 and 28 as V1's calls are. */
+ * A configuration has V30X_CONFIG_SIZE bytes, at the places V30X_CONFIG_..: PLL_SOURCE a V30X_PLL_SOURCE_.. code, PREDIVIDER a
+ * V30X_PLL_PREDIVIDER_.. code, MULTIPLIER a V30X_PLL_.. code, AHB a V30X_AHB_.. code, USBHS_PRESCALER a V30X_USBHS_.. code; PLLX is 1 where PLL2 or
+ * PLL3 is asked for. Where HSE, the PLL or the USBHS PLL is absent, its other bytes are zero; PLL_SOURCE and USBHS_FROM_HSE are free. The
+ * registers' fields have V30X_FIELDS_SIZE bytes, at the places V30X_FIELDS_... All three calls are refused by 32 and 28 as V1's are. */
 
-/* As V1's. The check is then refused by 27, 3, 24, 25, 8, 20, 26; the decoder by 27, 3, 24. */
+/* As V1's. The check is then refused by 27, 3, 24, 25, 3, 8, 20, 3, 26; the decoder by 27, 3, 24. */
 uint8_t wontabeli_v30x_check(const uint8_t *config, size_t config_len, uint32_t *out, size_t out_len);
 uint8_t wontabeli_v30x_decode(const uint8_t *fields, size_t fields_len, uint32_t hse, uint32_t *out, size_t out_len);
 uint8_t wontabeli_v30x_init_fields(const uint8_t *config, size_t config_len, const uint8_t *earlier, size_t earlier_len, uint8_t *out, size_t out_len);
 
 /* ---- CH32H4: arithmetic ---- */
 
-/* The clocks of a SYSCLK in Hz and the codes of the four prescalers. Gives CHECK_WORDS words: the clocks, and the AHB clock. Refused by 32, then by 28. */
+/* The clocks of a SYSCLK in Hz and the codes of the four prescalers: HPRE as V4X7_AHB_.., PPRE1 and PPRE2 as APB_... Gives CHECK_WORDS words: the
+ * clocks, and the AHB clock. Refused by 32, then by 28. */
 uint8_t wontabeli_h4_clocks(uint32_t sysclk, uint8_t hpre, uint8_t fpre, uint8_t ppre1, uint8_t ppre2, uint32_t *out, size_t out_len);
 
 /* Its single steps: the AHB clock after HPRE (28), HCLK after FPRE (of which two bits count: never refused). */
@@ -143,8 +153,8 @@ uint8_t wontabeli_h4_hclk(uint32_t ahb, uint8_t fpre, uint32_t *out);
 /* PCLK after PPRE and its timers' clock, PAIR_WORDS words. Refused by 32, then by 28. */
 uint8_t wontabeli_h4_pclk(uint32_t hclk, uint8_t ppre, uint32_t *out, size_t out_len);
 
-/* The PLL's multiplier at a position of the list, doubled. Positions 0 to 31 are the multipliers 4, 6, 7, 8, 8.5, 9, 9.5, 10, 10.5, 11, 11.5, 12, 12.5,
- * 13, 14, 15, 16, 17, 18, 19, 20, 22, 24, 26, 28, 30, 32, 34, 36, 38, 40, 59. Refused by 28 (above 31). */
+/* The PLL's multiplier at a position of the list, doubled. Positions 0 to 31 are the multipliers 4, 6, 7, 8, 8.5, 9, 9.5, 10, 10.5, 11, 11.5, 12,
+ * 12.5, 13, 14, 15, 16, 17, 18, 19, 20, 22, 24, 26, 28, 30, 32, 34, 36, 38, 40, 59. Refused by 28 (above 31). */
 uint8_t wontabeli_h4_multiplier(uint8_t position, uint32_t *out);
 
 #ifdef __cplusplus

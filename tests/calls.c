@@ -190,17 +190,17 @@ static void startups(void)
     memset(place, 0xee, sizeof place);
     IS(wontabeli_start(profile, 10, image, 8, place, 31), WONTABELI_OUTPUT_TOO_SHORT);
     IS(wontabeli_start(profile, 10, image, 8, place, sizeof place), 0);
-    SAME(place, 0, 0, 0, 0, 0, 0x18, 0, 0, 0, 0x34, 0, 0, 0, 0, 0, 0, 0, 0, 1, 0, 0, 0, 0, 0, 0, 0, 0, 0, WONTABELI_WORKED, 0, 0, 0, 0xee);
+    SAME(place, 0, 0, 0, 0, 0, 0x18, 0, 0, 0, 0x34, 0, 0, 0, 0, 0, 0, 0, 0, 1, 0, 0, 0, 0, 0, 0, 0, 0, 0, WONTABELI_REPORT_WORKED, 0, 0, 0, 0xee);
     /* step 1 writes HSION; then HSI is waited for, and read ready */
     IS(wontabeli_step(place, sizeof place, 0), 0);
     IS(place[WONTABELI_PLACE_IMAGE], 0x80);
     IS(place[WONTABELI_PLACE_NAMED], 1);
     IS(wontabeli_step(place, sizeof place, WONTABELI_SWS * 3), 0);
-    IS(place[WONTABELI_PLACE_WENT], WONTABELI_WAITING);
+    IS(place[WONTABELI_PLACE_REPORT], WONTABELI_REPORT_WAITING);
     IS(place[WONTABELI_PLACE_UNMET + 3], 1);
     IS(place[WONTABELI_PLACE_USED + 3], 1);
     IS(wontabeli_step(place, sizeof place, WONTABELI_HSIRDY), 0);
-    IS(place[WONTABELI_PLACE_WENT], WONTABELI_WORKED);
+    IS(place[WONTABELI_PLACE_REPORT], WONTABELI_REPORT_WORKED);
     IS(place[WONTABELI_PLACE_STEP], 3);
     IS(place[WONTABELI_PLACE_USED + 3], 2);
     IS(place[32], 0xee);
@@ -208,53 +208,202 @@ static void startups(void)
     IS(wontabeli_step(place, sizeof place, 0), WONTABELI_CODE_NOT_ALLOWED);
 }
 
-static void families(void)
+/* A startup of row A11 whose calls had good readings, before this step. */
+static void before(uint8_t *place, int step)
 {
-    /* V1: HSE 8 MHz by 2 (halved) times 9 is 36 MHz, APB1 by 2; not halved 72 MHz, USB by 1.5 */
-    uint8_t c[WONTABELI_V1_CONFIG_SIZE] = {1, 0, 0x00, 0x7a, 0x12, 0x00, 2, 1, 1, 1, 7, 0, 4, 0}, f[WONTABELI_V1_FIELDS_SIZE] = {0, 0, 0, 0, 0, 0, 0, 1};
-    uint8_t d[WONTABELI_V30X_CONFIG_SIZE] = {1, 0, 0x00, 0x7a, 0x12, 0x00, 2, 1, 1, 1, 0, 0, 8, 0, 4, 1, 1, 1}, g[WONTABELI_V30X_FIELDS_SIZE] = {0};
+    static const uint8_t profile[10] = {0, 0, 0, 0, 0, 0x18, 0, 0, 0, 0x34}, image[8] = {0};
+    int n;
+    IS(wontabeli_start(profile, 10, image, 8, place, WONTABELI_PLACE_SIZE), 0);
+    for (n = 0; n < 28 && place[WONTABELI_PLACE_STEP] != step; n++)
+        IS(wontabeli_step(place, WONTABELI_PLACE_SIZE, WONTABELI_HSIRDY), 0);
+    IS(place[WONTABELI_PLACE_STEP], step);
+}
+
+/* Each bit of a reading alone, at step 2: its ready bits and SWS are in the image, from its eighth bit on. SCKMOD is compared at step 21: 0 is right, 2 not. */
+static void readings(void)
+{
+    static const struct { uint16_t reading; uint8_t first, second; } list[] = {
+        {WONTABELI_HSIRDY, 0x81, 0}, {WONTABELI_HSERDY, 0x80, 0x80}, {WONTABELI_PLLRDY, 0x80, 0x40}, {WONTABELI_USBHS_PLLRDY, 0x80, 0x20},
+        {WONTABELI_ETH_PLLRDY, 0x80, 0x10}, {WONTABELI_SWS * 2, 0x80, 0x08}, {WONTABELI_SWS * 1, 0x80, 0x04}, {WONTABELI_SCKMOD * 3, 0x80, 0}};
+    uint8_t place[WONTABELI_PLACE_SIZE];
+    unsigned n;
+    for (n = 0; n < sizeof list / sizeof *list; n++) {
+        before(place, 2);
+        IS(wontabeli_step(place, sizeof place, list[n].reading), 0);
+        IS(place[WONTABELI_PLACE_IMAGE], list[n].first);
+        IS(place[WONTABELI_PLACE_IMAGE + 1], list[n].second);
+    }
+    for (n = 0; n < 4; n++) {
+        before(place, 21);
+        IS(wontabeli_step(place, sizeof place, (uint16_t)(WONTABELI_HSIRDY + WONTABELI_SCKMOD * n)), 0);
+        IS(place[WONTABELI_PLACE_PHASE], n == 0 ? 0 : WONTABELI_FLASH_MODE_DIFFERS);
+        /* readings used at steps 2, 4, 7 and 21; no wait is going on */
+        SAME(place + WONTABELI_PLACE_UNMET, 0, 0, 0, 0, 0, 0, 0, 4);
+    }
+}
+
+/* The 1,000,000th unmet reading of step 2, after which the place stays; a count beyond it is none that a starting leads to. */
+static void failing(void)
+{
+    uint8_t place[WONTABELI_PLACE_SIZE], last[WONTABELI_PLACE_SIZE];
+    static const uint8_t counts[8] = {0, 0x0f, 0x42, 0x3f, 0, 0x0f, 0x42, 0x3f};
+    before(place, 2);
+    memcpy(place + WONTABELI_PLACE_UNMET, counts, sizeof counts);
+    IS(wontabeli_step(place, sizeof place, 0), 0);
+    SAME(place + WONTABELI_PLACE_STEP, 2, 0, 0x0f, 0x42, 0x40, 0, 0x0f, 0x42, 0x40, 21, WONTABELI_REPORT_FAILED, 21, 2, 0);
+    memcpy(last, place, sizeof last);
+    IS(wontabeli_step(place, sizeof place, WONTABELI_HSIRDY), 0);
+    IS(memcmp(place, last, sizeof last), 0);
+    place[WONTABELI_PLACE_PHASE] = 0;
+    IS(wontabeli_step(place, sizeof place, WONTABELI_HSIRDY), WONTABELI_CODE_NOT_ALLOWED);
+    /* over, and AHB code 1 in the profile: the reader's 30 first */
+    memcpy(place, last, sizeof last);
+    place[6] |= 0x01;
+    IS(wontabeli_step(place, sizeof place, 0), WONTABELI_PROFILE_CODE);
+}
+
+/* Several records wrong at once: 32, then the profile's 29 or 30, then the image's 31, then 28 or the check's. */
+static void wrong_together(void)
+{
+    /* HSE 4,999,999 (4); the same with the last bit of the filling set (30) */
+    uint8_t profile[10] = {0x80, 0x13, 0x12, 0xcf, 0xc0, 0x18, 0, 0, 0, 0x34}, filled[10] = {0x80, 0x13, 0x12, 0xcf, 0xc0, 0x18, 0, 0, 0, 0x35};
+    uint8_t image[8] = {0, 0, 0, 0, 0, 0, 0, 1}, zero[8] = {0}, place[WONTABELI_PLACE_SIZE], kept[WONTABELI_PLACE_SIZE];
+    memset(kept, 0xee, sizeof kept);
+    memcpy(place, kept, sizeof place);
+    IS(wontabeli_start(filled, 9, image, 7, place, 31), WONTABELI_OUTPUT_TOO_SHORT);
+    IS(wontabeli_start(filled, 9, image, 7, place, sizeof place), WONTABELI_PROFILE_LENGTH);
+    IS(wontabeli_start(filled, 10, image, 8, place, sizeof place), WONTABELI_PROFILE_CODE);
+    IS(wontabeli_start(profile, 10, image, 8, place, sizeof place), WONTABELI_IMAGE_LENGTH_OR_FILLING);
+    IS(wontabeli_start(profile, 10, zero, 8, place, sizeof place), WONTABELI_HSE_OUT_OF_RANGE);
+    IS(memcmp(place, kept, sizeof place), 0);
+    /* the same records in a place, with a phase and a step that no startup has */
+    memset(kept, 0, sizeof kept);
+    memcpy(kept, filled, 10);
+    memcpy(kept + WONTABELI_PLACE_IMAGE, image, 8);
+    kept[WONTABELI_PLACE_PHASE] = 7;
+    memcpy(place, kept, sizeof place);
+    IS(wontabeli_step(place, 31, 0), WONTABELI_OUTPUT_TOO_SHORT);
+    IS(wontabeli_step(place, sizeof place, 0), WONTABELI_PROFILE_CODE);
+    IS(memcmp(place, kept, sizeof place), 0);
+    memcpy(place, profile, 10);
+    IS(wontabeli_step(place, sizeof place, 0), WONTABELI_IMAGE_LENGTH_OR_FILLING);
+    place[WONTABELI_PLACE_IMAGE + 7] = 0;
+    IS(wontabeli_step(place, sizeof place, 0), WONTABELI_CODE_NOT_ALLOWED);
+    IS(wontabeli_waits_owed(filled, 10, out), WONTABELI_PROFILE_CODE);
+    IS(wontabeli_call_bound(filled, 10, out), WONTABELI_PROFILE_CODE);
+}
+
+static void v1(void)
+{
+    /* HSE 12 MHz by 2 (halved) times 9 is 54 MHz, APB1 by 2; not halved times 6 it is 72 MHz, USB by 1.5 */
+    uint8_t c[WONTABELI_V1_CONFIG_SIZE] = {1, 0, 0x00, 0xb7, 0x1b, 0x00, 2, 1, 1, 1, 7, 0, 4, 0}, f[WONTABELI_V1_FIELDS_SIZE] = {0, 0, 0, 0, 0, 0, 0, 1};
+    uint8_t h[WONTABELI_V1_FIELDS_SIZE];
     IS(wontabeli_v1_check(WONTABELI_V1_PART_V1, c, sizeof c, out, 7), 0);
-    clocks(__LINE__, 36000000, 36000000, 18000000, 36000000, 36000000, 36000000);
+    clocks(__LINE__, 54000000, 54000000, 27000000, 54000000, 54000000, 54000000);
     IS(out[WONTABELI_MORE], 0);
     IS(wontabeli_v1_init_fields(WONTABELI_V1_PART_V1, c, sizeof c, f, sizeof f, f, 7), WONTABELI_OUTPUT_TOO_SHORT);
+    IS(wontabeli_v1_init_fields(WONTABELI_V1_PART_V1, c, sizeof c, f, sizeof f, h, sizeof h), 0);
+    SAME(h, 2, 1, 1, 7, 0, 4, 0, 1);
+    IS(wontabeli_v1_decode(WONTABELI_V1_PART_V1, h, sizeof h, 12000000, out, 6), 0);
+    clocks(__LINE__, 54000000, 54000000, 27000000, 54000000, 54000000, 54000000);
+    IS(wontabeli_v1_decode(WONTABELI_V1_PART_V1, h, sizeof h, 0, out, 6), WONTABELI_HSE_MISSING);
+    /* code 15: V1 by 16, L1 by 18 */
+    h[3] = 15;
+    IS(wontabeli_v1_decode(WONTABELI_V1_PART_V1, h, sizeof h, 12000000, out, 6), 0);
+    IS(out[WONTABELI_SYSCLK], 96000000);
+    IS(wontabeli_v1_decode(WONTABELI_V1_PART_L1, h, sizeof h, 12000000, out, 6), 0);
+    IS(out[WONTABELI_SYSCLK], 108000000);
     c[9] = 0;
+    c[10] = 4;
     IS(wontabeli_v1_check(WONTABELI_V1_PART_L1, c, sizeof c, out, 7), 0);
     IS(out[WONTABELI_SYSCLK], 72000000);
     IS(out[WONTABELI_MORE], 3);
+    /* the PLL from HSI, by 1: the last bit is set, and 8 MHz times 6 is 48; by 2 it is clear, and 24. PLLXTPRE is kept */
+    c[7] = 0;
+    f[2] = 1;
+    IS(wontabeli_v1_init_fields(WONTABELI_V1_PART_L1, c, sizeof c, f, sizeof f, h, sizeof h), 0);
+    SAME(h, 2, 0, 1, 4, 0, 4, 0, 1);
+    IS(wontabeli_v1_decode(WONTABELI_V1_PART_L1, h, sizeof h, 12000000, out, 6), 0);
+    IS(out[WONTABELI_SYSCLK], 48000000);
     c[9] = 1;
-    {
-        uint8_t h[WONTABELI_V1_FIELDS_SIZE];
-        IS(wontabeli_v1_init_fields(WONTABELI_V1_PART_V1, c, sizeof c, f, sizeof f, h, sizeof h), 0);
-        SAME(h, 2, 1, 1, 7, 0, 4, 0, 1);
-        IS(wontabeli_v1_decode(WONTABELI_V1_PART_V1, h, sizeof h, 8000000, out, 6), 0);
-        clocks(__LINE__, 36000000, 36000000, 18000000, 36000000, 36000000, 36000000);
-        IS(wontabeli_v1_decode(WONTABELI_V1_PART_V1, h, sizeof h, 0, out, 6), WONTABELI_HSE_MISSING);
-        /* code 15: V1 by 16, L1 by 18 */
-        h[3] = 15;
-        IS(wontabeli_v1_decode(WONTABELI_V1_PART_V1, h, sizeof h, 8000000, out, 6), 0);
-        IS(out[WONTABELI_SYSCLK], 64000000);
-        IS(wontabeli_v1_decode(WONTABELI_V1_PART_L1, h, sizeof h, 8000000, out, 6), 0);
-        IS(out[WONTABELI_SYSCLK], 72000000);
-    }
+    IS(wontabeli_v1_init_fields(WONTABELI_V1_PART_L1, c, sizeof c, f, sizeof f, h, sizeof h), 0);
+    SAME(h, 2, 0, 1, 4, 0, 4, 0, 0);
+    IS(wontabeli_v1_decode(WONTABELI_V1_PART_L1, h, sizeof h, 12000000, out, 6), 0);
+    IS(out[WONTABELI_SYSCLK], 24000000);
+}
+
+/* 28 before anything else: another part or length; each field one too wide, where the configuration is accepted and where it has no HSE (3). */
+static void v1_codes(void)
+{
+    static const uint8_t beyond[WONTABELI_V1_FIELDS_SIZE] = {4, 2, 2, 16, 16, 8, 8, 2};
+    uint8_t c[WONTABELI_V1_CONFIG_SIZE] = {1, 0, 0x00, 0xb7, 0x1b, 0x00, 2, 1, 1, 1, 7, 0, 4, 0};
+    uint8_t none[WONTABELI_V1_CONFIG_SIZE] = {0, 0, 0, 0, 0, 0, 2, 1, 1, 1, 7, 0, 4, 0}, f[WONTABELI_V1_FIELDS_SIZE] = {0}, h[WONTABELI_V1_FIELDS_SIZE];
+    int n;
     IS(wontabeli_v1_check(2, c, sizeof c, out, 7), WONTABELI_CODE_NOT_ALLOWED);
+    IS(wontabeli_v1_decode(2, f, sizeof f, 12000000, out, 6), WONTABELI_CODE_NOT_ALLOWED);
+    IS(wontabeli_v1_init_fields(2, c, sizeof c, f, sizeof f, h, sizeof h), WONTABELI_CODE_NOT_ALLOWED);
     IS(wontabeli_v1_check(WONTABELI_V1_PART_V1, c, 13, out, 7), WONTABELI_CODE_NOT_ALLOWED);
-    /* V30x: HSE 8 MHz by 2 times 18 is 72 MHz, AHB by 2, APB2 by 2; USBHS from HSE by 2 is 4 MHz */
-    IS(wontabeli_v30x_check(d, sizeof d, out, 7), 0);
-    clocks(__LINE__, 72000000, 36000000, 36000000, 18000000, 36000000, 36000000);
-    IS(out[WONTABELI_MORE], 0);
-    {
-        uint8_t h[WONTABELI_V30X_FIELDS_SIZE];
-        IS(wontabeli_v30x_init_fields(d, sizeof d, g, sizeof g, h, sizeof h), 0);
-        SAME(h, 2, 1, 1, 0, 0, 8, 0, 4, 0);
-        IS(wontabeli_v30x_decode(h, sizeof h, 8000000, out, 6), 0);
-        clocks(__LINE__, 72000000, 36000000, 36000000, 18000000, 36000000, 36000000);
-        h[3] = 1;
-        IS(wontabeli_v30x_decode(h, sizeof h, 8000000, out, 6), WONTABELI_PLL2_OR_PLL3);
+    IS(wontabeli_v1_init_fields(WONTABELI_V1_PART_V1, none, sizeof none, f, sizeof f, h, sizeof h), WONTABELI_HSE_MISSING);
+    for (n = 0; n < WONTABELI_V1_FIELDS_SIZE; n++) {
+        memset(f, 0, sizeof f);
+        f[n] = beyond[n];
+        IS(wontabeli_v1_decode(WONTABELI_V1_PART_V1, f, sizeof f, 12000000, out, 6), WONTABELI_CODE_NOT_ALLOWED);
+        IS(wontabeli_v1_init_fields(WONTABELI_V1_PART_V1, c, sizeof c, f, sizeof f, h, sizeof h), WONTABELI_CODE_NOT_ALLOWED);
+        IS(wontabeli_v1_init_fields(WONTABELI_V1_PART_L1, none, sizeof none, f, sizeof f, h, sizeof h), WONTABELI_CODE_NOT_ALLOWED);
     }
-    d[17] = 2;
+}
+
+static void v30x(void)
+{
+    /* HSE 10 MHz by 2 times 18 is 90 MHz, AHB by 2, APB2 by 2; USBHS from HSE by 2 is 5 MHz */
+    uint8_t d[WONTABELI_V30X_CONFIG_SIZE] = {1, 0, 0x00, 0x98, 0x96, 0x80, 2, 1, 1, 1, 0, 0, 8, 0, 4, 1, 1, 1}, g[WONTABELI_V30X_FIELDS_SIZE] = {0};
+    uint8_t h[WONTABELI_V30X_FIELDS_SIZE];
+    IS(wontabeli_v30x_check(d, sizeof d, out, 7), 0);
+    clocks(__LINE__, 90000000, 45000000, 45000000, 22500000, 45000000, 45000000);
+    IS(out[WONTABELI_MORE], 0);
+    IS(wontabeli_v30x_init_fields(d, sizeof d, g, sizeof g, h, sizeof h), 0);
+    SAME(h, 2, 1, 1, 0, 0, 8, 0, 4, 0);
+    IS(wontabeli_v30x_decode(h, sizeof h, 10000000, out, 6), 0);
+    clocks(__LINE__, 90000000, 45000000, 45000000, 22500000, 45000000, 45000000);
+    h[3] = 1;
+    IS(wontabeli_v30x_decode(h, sizeof h, 10000000, out, 6), WONTABELI_PLL2_OR_PLL3);
+    /* USBHS by 1: 10 MHz from HSE is no reference, 8 MHz from HSI is */
+    d[17] = 0;
     IS(wontabeli_v30x_check(d, sizeof d, out, 7), WONTABELI_USBHS_REFERENCE);
+    d[15] = 0;
+    IS(wontabeli_v30x_check(d, sizeof d, out, 7), 0);
+    /* the PLL from HSI by 2 times 18 is 72 MHz, the last bit clear; by 1 it is 144, USB by 3, and the bit is set */
+    d[7] = 0;
+    IS(wontabeli_v30x_init_fields(d, sizeof d, g, sizeof g, h, sizeof h), 0);
+    SAME(h, 2, 0, 0, 0, 0, 8, 0, 4, 0);
+    IS(wontabeli_v30x_decode(h, sizeof h, 10000000, out, 6), 0);
+    IS(out[WONTABELI_SYSCLK], 72000000);
+    d[9] = 0;
+    IS(wontabeli_v30x_check(d, sizeof d, out, 7), 0);
+    IS(out[WONTABELI_SYSCLK], 144000000);
+    IS(out[WONTABELI_MORE], 6);
+    IS(wontabeli_v30x_init_fields(d, sizeof d, g, sizeof g, h, sizeof h), 0);
+    SAME(h, 2, 0, 0, 0, 0, 8, 0, 4, 1);
     d[11] = 1;
     IS(wontabeli_v30x_check(d, sizeof d, out, 7), WONTABELI_PLL2_OR_PLL3);
+}
+
+/* As v1_codes; the configuration that is refused asks for PLL2 or PLL3 (27). */
+static void v30x_codes(void)
+{
+    static const uint8_t beyond[WONTABELI_V30X_FIELDS_SIZE] = {4, 2, 16, 2, 16, 16, 8, 8, 2};
+    uint8_t d[WONTABELI_V30X_CONFIG_SIZE] = {1, 0, 0x00, 0x98, 0x96, 0x80, 2, 1, 1, 1, 0, 0, 8, 0, 4, 1, 1, 1};
+    uint8_t f[WONTABELI_V30X_FIELDS_SIZE] = {0}, h[WONTABELI_V30X_FIELDS_SIZE];
+    int n;
+    for (n = 0; n < WONTABELI_V30X_FIELDS_SIZE; n++) {
+        memset(f, 0, sizeof f);
+        f[n] = beyond[n];
+        d[11] = 0;
+        IS(wontabeli_v30x_decode(f, sizeof f, 10000000, out, 6), WONTABELI_CODE_NOT_ALLOWED);
+        IS(wontabeli_v30x_init_fields(d, sizeof d, f, sizeof f, h, sizeof h), WONTABELI_CODE_NOT_ALLOWED);
+        d[11] = 1;
+        IS(wontabeli_v30x_init_fields(d, sizeof d, f, sizeof f, h, sizeof h), WONTABELI_CODE_NOT_ALLOWED);
+    }
 }
 
 static void h4(void)
@@ -281,7 +430,13 @@ int main(void)
     profiles();
     images();
     startups();
-    families();
+    readings();
+    failing();
+    wrong_together();
+    v1();
+    v1_codes();
+    v30x();
+    v30x_codes();
     h4();
     printf("calls: %d right, %d wrong\n", right, wrong);
     return wrong != 0;

@@ -10,16 +10,16 @@ fn clocks(sysclk: u32, hclk: u32, pclk1: u32, pclk2: u32, pclk1_tim: u32, pclk2_
 fn profiles() {
     let config = Config {
         hse: Some(Hse { bypass: false, freq: 8_000_000 }),
-        sys: 2,
-        pll_src: 1,
-        pll: Some(5),
-        hspll: Some(1),
-        ahb_pre: 8,
-        apb1_pre: 5,
-        apb2_pre: 4,
+        sys: Sysclk::Pll,
+        pll_src: PllSource::Hse,
+        pll: Some(PllMul::Mul12_5),
+        hspll: Some(HsPllSource::Hsi),
+        ahb_pre: AhbPrescaler::Div2,
+        apb1_pre: ApbPrescaler::Div4,
+        apb2_pre: ApbPrescaler::Div2,
         adc_src: AdcClockSource::UsbHsPll { divisor: 16 },
-        adc_pre: 1,
-        adc_duty: 2,
+        adc_pre: AdcPrescaler::Div4,
+        adc_duty: AdcDutyCycle::Percent75,
         ..Config::default()
     };
     let profile = config.to_profile().unwrap();
@@ -31,11 +31,19 @@ fn profiles() {
     assert_eq!(waits_owed(&profile), Ok(7));
     assert_eq!(call_bound(&profile), Ok(7_000_020));
     // HSE 25 MHz bypassed, SYSPLL source 3 by 4, the ETH PLL, the RNG from it
-    let other = Config { hse: Some(Hse { bypass: true, freq: 25_000_000 }), syspll_src: 3, syspll_pre: 3, ethpll: true, rng_src: 2, ..Config::default() };
+    let other = Config {
+        hse: Some(Hse { bypass: true, freq: 25_000_000 }),
+        syspll_src: SysPllSource::EthMul2Div3,
+        syspll_pre: SysPllPrescaler::Div4,
+        ethpll: true,
+        rng_src: RngClockSource::EthPll,
+        ..Config::default()
+    };
     let profile = other.to_profile().unwrap();
     assert_eq!(profile, [0xc0, 0x5f, 0x5e, 0x10, 0x00, 0x0d, 0x88, 0x01, 0x00, 0x34]);
     assert_eq!(Config::from_profile(&profile), Ok(other));
-    assert_eq!(Config { ahb_pre: 7, ..other }.to_profile(), Err(Refusal::ProfileCode));
+    // AHB 1
+    assert_eq!(Config::from_profile(&[0, 0, 0, 0, 0, 0x18, 0, 0x80, 0, 0x34]), Err(Refusal::ProfileCode));
     assert_eq!(Config::default().to_profile(), Ok([0, 0, 0, 0, 0, 0x18, 0, 0, 0, 0x34]));
     assert_eq!(check(&profile[..9]), Err(Refusal::ProfileLength));
     assert_eq!(Refusal::ProfileLength.number(), 29);
@@ -78,29 +86,62 @@ fn startups() {
 fn ends() {
     let started = || Startup::start(&[0, 0, 0, 0, 0, 0x18, 0, 0, 0, 0x34], &[0; 8]).unwrap();
     let good = Reading { hsirdy: true, ..Reading::default() };
-    let until_over = |startup: &mut Startup, reading| loop {
-        match startup.step(reading).unwrap() {
-            Report::Worked { .. } | Report::Waiting { .. } => {}
-            report => return report,
+    let until_over = |startup: &mut Startup, reading| {
+        for _ in 0..4_000_020 {
+            match startup.step(reading).unwrap() {
+                Report::Worked { .. } | Report::Waiting { .. } => {}
+                report => return report,
+            }
         }
+        panic!("not over within the bound of the calls")
     };
     let mut startup = started();
     assert_eq!(until_over(&mut startup, Reading::default()), Report::Failed { refusal: Refusal::WaitFailed, step: 2, used: 1_000_000 });
     let other_mode = Reading { sckmod: 1, ..good };
     assert_eq!(until_over(&mut started(), other_mode), Report::Failed { refusal: Refusal::FlashModeDiffers, step: 21, used: 4 });
-    let mut startup = started();
-    while startup.bytes()[PLACE_STEP] != 28 {
-        startup.step(good).unwrap();
-    }
-    let mut place = startup.bytes();
-    assert_eq!(startup.step(good), Ok(Report::Running { step: 28, used: 5 }));
-    // HPRE changed from 0 to 8: HCLK 10 MHz and not 20
-    let mut fields = read_image(&startup.image()).unwrap();
-    fields[IMAGE_HPRE] = 8;
-    place[PLACE_IMAGE..PLACE_IMAGE + IMAGE_SIZE].copy_from_slice(&write_image(&fields).unwrap());
-    assert_eq!(Startup::from_bytes(place).step(good), Ok(Report::Failed { refusal: Refusal::ClocksDiffer, step: 0, used: 5 }));
+    let mut place = before_28(&[0, 0, 0, 0, 0, 0x18, 0, 0, 0, 0x34], 0, 0);
+    assert_eq!(Startup::from_bytes(place).step(good), Ok(Report::Running { step: 28, used: 5 }));
     place[PLACE_STEP] = 0;
     assert_eq!(Startup::from_bytes(place).step(good), Err(Refusal::CodeNotAllowed));
+}
+
+// A startup before step 28, of a configuration with at most the main PLL: each reading meets its wait.
+fn before_28(profile: &[u8; PROFILE_SIZE], sys: u8, sckmod: u8) -> [u8; PLACE_SIZE] {
+    let mut startup = Startup::start(profile, &[0; IMAGE_SIZE]).unwrap();
+    for _ in 0..28 {
+        let step = startup.bytes()[PLACE_STEP];
+        if step == 28 {
+            break;
+        }
+        let sws = if step == 27 { sys } else { 0 };
+        startup.step(Reading { hsirdy: true, pllrdy: step == 18, sws, sckmod, ..Reading::default() }).unwrap();
+    }
+    startup.bytes()
+}
+
+// Step 28 with fields that don't hold what was written: one clock alone is another than the check promised.
+fn differs() {
+    let changed = |place: [u8; PLACE_SIZE], codes: &[(usize, u8)]| {
+        let mut place = place;
+        let mut fields = read_image(&place[PLACE_IMAGE..PLACE_IMAGE + IMAGE_SIZE]).unwrap();
+        for (field, code) in codes {
+            fields[*field] = *code;
+        }
+        place[PLACE_IMAGE..PLACE_IMAGE + IMAGE_SIZE].copy_from_slice(&write_image(&fields).unwrap());
+        Startup::from_bytes(place).step(Reading::default())
+    };
+    let differ = |used| Ok(Report::Failed { refusal: Refusal::ClocksDiffer, step: 0, used });
+    // Row A11: PCLK1, then PCLK2, 10 MHz, the timer 20 as before. HPRE 7 divides by 1 too. SWS 3 can't be decoded.
+    let a11 = before_28(&[0, 0, 0, 0, 0, 0x18, 0, 0, 0, 0x34], 0, 0);
+    assert_eq!(changed(a11, &[(IMAGE_PPRE1, 4)]), differ(5));
+    assert_eq!(changed(a11, &[(IMAGE_PPRE2, 4)]), differ(5));
+    assert_eq!(changed(a11, &[(IMAGE_HPRE, 7)]), Ok(Report::Running { step: 28, used: 5 }));
+    assert_eq!(changed(a11, &[(IMAGE_SWS, 3)]), differ(5));
+    // Row A5 with both buses by 4: SYSCLK 400 MHz by 2 again; then HCLK 100 MHz, and the buses by 2.
+    let a5 = before_28(&[0, 0, 0, 0, 0x26, 0x98, 0x80, 0x5a, 0, 0x34], 2, 1);
+    assert_eq!(changed(a5, &[]), Ok(Report::Running { step: 28, used: 6 }));
+    assert_eq!(changed(a5, &[(IMAGE_SYSPLLDIV, 0), (IMAGE_HPRE, 8)]), differ(6));
+    assert_eq!(changed(a5, &[(IMAGE_HPRE, 8), (IMAGE_PPRE1, 4), (IMAGE_PPRE2, 4)]), differ(6));
 }
 
 // A chip whose flash takes SCKMOD only while it is unlocked: by the keys in their order, until LOCK is written.
@@ -142,39 +183,46 @@ fn runs() {
 }
 
 fn families() {
-    let hse = Some(Hse { bypass: false, freq: 8_000_000 });
-    let hz = NonZeroU32::new(8_000_000);
-    let config = v1::Config { hse, sys: 2, pll_from_hse: true, pll: Some(v1::Pll { halved: true, mul: 7 }), apb1_pre: 4, ..v1::Config::default() };
-    let run = clocks(36_000_000, 36_000_000, 18_000_000, 36_000_000, 36_000_000, 36_000_000);
+    let hse = Some(Hse { bypass: false, freq: 12_000_000 });
+    let hz = NonZeroU32::new(12_000_000);
+    let config = v1::Config {
+        hse,
+        sys: Sysclk::Pll,
+        pll_from_hse: true,
+        pll: Some(v1::Pll { halved: true, mul: v1::PllMul::Mul9 }),
+        apb1_pre: ApbPrescaler::Div2,
+        ..v1::Config::default()
+    };
+    let run = clocks(54_000_000, 54_000_000, 27_000_000, 54_000_000, 54_000_000, 54_000_000);
     assert_eq!(v1::check(v1::Part::V1, &config), Ok(v1::Checked { clocks: run, usb_divisor_x2: None }));
     let fields = v1::init_fields(v1::Part::V1, &config, &[0, 0, 0, 0, 0, 0, 0, 1]).unwrap();
     assert_eq!(fields, [2, 1, 1, 7, 0, 4, 0, 1]);
     assert_eq!(v1::decode(v1::Part::V1, &fields, hz), Ok(run));
-    let whole = v1::Config { pll: Some(v1::Pll { halved: false, mul: 15 }), ..config };
-    assert_eq!(v1::check(v1::Part::V1, &whole).map(|x| x.clocks.sysclk), Ok(128_000_000));
-    assert_eq!(v1::check(v1::Part::L1, &whole).map(|x| x.clocks.sysclk), Ok(144_000_000));
-    // 8 MHz x 9 is 72 MHz, by 1.5
-    let usb = v1::Config { pll: Some(v1::Pll { halved: false, mul: 7 }), ..config };
+    let whole = v1::Config { pll: Some(v1::Pll { halved: false, mul: v1::PllMul::Mul16Or18 }), ..config };
+    assert_eq!(v1::check(v1::Part::V1, &whole).map(|x| x.clocks.sysclk), Ok(192_000_000));
+    assert_eq!(v1::check(v1::Part::L1, &whole).map(|x| x.clocks.sysclk), Ok(216_000_000));
+    // 12 MHz x 6 is 72 MHz, by 1.5
+    let usb = v1::Config { pll: Some(v1::Pll { halved: false, mul: v1::PllMul::Mul6 }), ..config };
     assert_eq!(v1::check(v1::Part::V1, &usb).map(|x| x.usb_divisor_x2), Ok(Some(3)));
 
     let config = v30x::Config {
         hse,
-        sys: 2,
+        sys: Sysclk::Pll,
         pll_src: v30x::PllSource::Hse,
-        pll: Some(v30x::Pll { prediv: 1, mul: 0 }),
-        ahb_pre: 8,
-        apb2_pre: 4,
+        pll: Some(v30x::Pll { prediv: v30x::PllPreDiv::Div2, mul: v30x::PllMul::Mul18 }),
+        ahb_pre: v30x::AhbPrescaler::Div2,
+        apb2_pre: ApbPrescaler::Div2,
         hspll_from_hse: true,
-        hspll: Some(1),
+        hspll: Some(v30x::HsPllPrescaler::Div3),
         ..v30x::Config::default()
     };
-    let run = clocks(72_000_000, 36_000_000, 36_000_000, 18_000_000, 36_000_000, 36_000_000);
+    let run = clocks(108_000_000, 54_000_000, 54_000_000, 27_000_000, 54_000_000, 54_000_000);
     assert_eq!(v30x::check(&config), Ok(v30x::Checked { clocks: run, usb_divisor_x2: None }));
     let fields = v30x::init_fields(&config, &[0; V30X_FIELDS_SIZE]).unwrap();
     assert_eq!(fields, [2, 1, 1, 0, 0, 8, 0, 4, 0]);
     assert_eq!(v30x::decode(&fields, hz), Ok(run));
     assert_eq!(v30x::check(&v30x::Config { pllx: true, ..config }), Err(Refusal::Pll2OrPll3));
-    let whole = v30x::Config { pll: Some(v30x::Pll { prediv: 0, mul: 0 }), ..config };
+    let whole = v30x::Config { pll: Some(v30x::Pll { prediv: v30x::PllPreDiv::Div1, mul: v30x::PllMul::Mul12 }), ..config };
     assert_eq!(v30x::check(&whole).map(|x| x.usb_divisor_x2), Ok(Some(6)));
 
     let codes = h4::Prescale { hpre: 8, fpre: 2, ppre1: 4, ppre2: 5 };
@@ -191,6 +239,7 @@ fn main() {
     images();
     startups();
     ends();
+    differs();
     runs();
     families();
     println!("calls: every wrapper of the Rust crate is right");

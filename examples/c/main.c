@@ -31,34 +31,58 @@ static void write_keys(struct chip *chip)
 {
     uint32_t key[WONTABELI_PAIR_WORDS];
     uint8_t position;
-    for (position = 0; wontabeli_flash_key(position, key, WONTABELI_PAIR_WORDS) == 0; position++) chip->keys += 1;
+    for (position = 0; position < 4; position++)
+        if (wontabeli_flash_key(position, key, WONTABELI_PAIR_WORDS) == 0) chip->keys += 1;
+}
+
+/* A refusal: its number, and why. */
+static int refused(uint8_t number)
+{
+    printf("refused %u: %s\n", number, wontabeli_refusal_text(number));
+    return 1;
+}
+
+/* One call, and what the host then writes to the chip. */
+static uint8_t turn(struct chip *chip, uint8_t *place)
+{
+    uint8_t number = wontabeli_step(place, WONTABELI_PLACE_SIZE, read_chip(chip));
+    if (number != 0) return number;
+    /* The fields first: on a chip those that changed, but never the ready bits and SWS; at step 20 SCKMOD, LOCK and FLOCK in any case. */
+    memcpy(chip->image, place + WONTABELI_PLACE_IMAGE, sizeof chip->image);
+    /* Then the keys: LOCK and FLOCK written after them would lock the flash again. */
+    if (place[WONTABELI_PLACE_REPORT] == WONTABELI_REPORT_WORKED && place[WONTABELI_PLACE_NAMED] == 19) write_keys(chip);
+    return 0;
+}
+
+/* How a startup ended. */
+static void tell(const struct chip *chip, const uint8_t *place)
+{
+    const uint8_t *used = place + WONTABELI_PLACE_USED;
+    unsigned long readings = (unsigned long)used[0] << 24 | (unsigned long)used[1] << 16 | (unsigned long)used[2] << 8 | used[3];
+    if (place[WONTABELI_PLACE_PHASE] == WONTABELI_PHASE_RUNNING)
+        printf("running, %lu readings, %d keys written\n", readings, chip->keys);
+    else
+        printf("stopped by %u at step %u, %lu readings\n", place[WONTABELI_PLACE_NUMBER], place[WONTABELI_PLACE_NAMED], readings);
 }
 
 static int start(int crystal)
 {
     struct chip chip = {{0}, 0, 0};
     uint8_t place[WONTABELI_PLACE_SIZE];
-    uint8_t number = wontabeli_start(profile, sizeof profile, chip.image, sizeof chip.image, place, sizeof place);
-    const uint8_t *used = place + WONTABELI_PLACE_USED;
-    unsigned long readings;
+    uint32_t calls, bound;
+    uint8_t number = wontabeli_call_bound(profile, sizeof profile, &bound);
+    if (number == 0) number = wontabeli_start(profile, sizeof profile, chip.image, sizeof chip.image, place, sizeof place);
     chip.crystal = crystal;
-    while (number == 0 && place[WONTABELI_PLACE_PHASE] == 0) {
-        number = wontabeli_step(place, sizeof place, read_chip(&chip));
-        if (number != 0) break;
-        /* The fields first: on a chip those that changed, but never the ready bits and SWS; at step 20 SCKMOD, LOCK and FLOCK in any case. */
-        memcpy(chip.image, place + WONTABELI_PLACE_IMAGE, sizeof chip.image);
-        /* Then the keys: LOCK and FLOCK written after them would lock the flash again. */
-        if (place[WONTABELI_PLACE_WENT] == WONTABELI_WORKED && place[WONTABELI_PLACE_NAMED] == 19) write_keys(&chip);
+    /* It is proved that the startup is over within so many calls; a host that counts them ends also where something else is linked. */
+    for (calls = 0; number == 0 && place[WONTABELI_PLACE_PHASE] == WONTABELI_PHASE_GOING; calls++) {
+        if (calls == bound) {
+            printf("not over after %lu calls\n", (unsigned long)calls);
+            return 1;
+        }
+        number = turn(&chip, place);
     }
-    if (number != 0) {
-        printf("refused %u\n", number);
-        return 1;
-    }
-    readings = (unsigned long)used[0] << 24 | (unsigned long)used[1] << 16 | (unsigned long)used[2] << 8 | used[3];
-    if (place[WONTABELI_PLACE_WENT] == WONTABELI_RUNNING)
-        printf("running, %lu readings, %d keys written\n", readings, chip.keys);
-    else
-        printf("stopped by %u at step %u, %lu readings\n", place[WONTABELI_PLACE_NUMBER], place[WONTABELI_PLACE_NAMED], readings);
+    if (number != 0) return refused(number);
+    tell(&chip, place);
     return 0;
 }
 
@@ -68,10 +92,7 @@ int main(void)
     uint32_t clocks[WONTABELI_CHECK_WORDS];
     uint8_t number = wontabeli_check(profile, sizeof profile, clocks, WONTABELI_CHECK_WORDS);
     int i;
-    if (number != 0) {
-        printf("refused %u\n", number);
-        return 1;
-    }
+    if (number != 0) return refused(number);
     for (i = 0; i < WONTABELI_CHECK_WORDS; i++) printf("%s %lu\n", names[i], (unsigned long)clocks[i]);
     printf("nine bytes: refused %u\n", wontabeli_check(profile, 9, clocks, WONTABELI_CHECK_WORDS));
     return start(1) | start(0);

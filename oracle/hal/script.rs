@@ -37,10 +37,16 @@ pub struct Chip {
     limit: u32,
     pub calls: u32,
     pub used: u32,
-    /// The step worked last.
+    /// The step worked last, how many readings in a row it used, and the step whose call the limit kept from being made.
     pub step: u8,
+    pub readings: u32,
+    pub next: u8,
     /// The last step that wrote; a wait has the number after it.
     wrote: u8,
+    /// Whether CFGR0, read once more at step 28, shows the last used reading again, as document 01 has it, or the script's next one.
+    held: bool,
+    /// Whether it showed another SWS there.
+    pub away: bool,
     pub keys: Vec<(bool, u32)>,
 }
 
@@ -86,26 +92,33 @@ impl Chip {
             calls: 0,
             used: 0,
             step: 0,
+            readings: 0,
+            next: 0,
             wrote: 0,
+            held: true,
+            away: false,
             keys: Vec::new(),
         }
     }
 
-    pub fn scripted(fields: [u8; 33], segments: Vec<Segment>, limit: u32) -> Chip {
+    pub fn scripted(fields: [u8; 33], segments: Vec<Segment>, limit: u32, held: bool) -> Chip {
         Chip {
             running: true,
             segments,
             limit,
+            held,
             ..Chip::still(fields)
         }
     }
 
     fn call(&mut self, step: u8) {
         if self.calls == self.limit {
+            self.next = step;
             // Not a panic: the hook that notes the Rust's panics stays out of it.
             std::panic::resume_unwind(Box::new(Stopped));
         }
         self.calls += 1;
+        self.readings = if step == self.step { self.readings + 1 } else { 1 };
         self.step = step;
     }
 
@@ -158,9 +171,15 @@ impl Chip {
         reading
     }
 
-    /// Whether the last wait is met: then the record holds still, and `init` decodes it (step 28).
-    fn switched(&self) -> bool {
-        self.step >= 27 && self.fields[SWS] == self.fields[SW]
+    /// Step 28: `init` decodes the record. It reads CFGR0 once more for it, and SWS is what the chip then shows: no reading that document 01 counts.
+    fn look_once_more(&mut self) -> [u8; 33] {
+        self.call(28);
+        let mut seen = self.fields;
+        if !self.held {
+            seen[SWS] = self.next_reading().sws & 3;
+            self.away = seen[SWS] != self.fields[SWS];
+        }
+        seen
     }
 
     pub fn look(&mut self) -> [u8; 33] {
@@ -168,12 +187,11 @@ impl Chip {
     }
 
     pub fn look_with_reading(&mut self) -> [u8; 33] {
+        if self.running && self.step == 27 && self.fields[SWS] == self.fields[SW] {
+            return self.look_once_more();
+        }
         if self.running {
-            if !self.switched() {
-                self.use_reading();
-            } else if self.step == 27 {
-                self.call(28);
-            }
+            self.use_reading();
         }
         self.fields
     }

@@ -48,6 +48,23 @@ pub fn start(setup: &Setup) -> ([u32; 6], u8) {
     (rcc::clocks().numbers(), pac::usb_doubled())
 }
 
+/// The Rust's named configurations, in its order, and the clocks that `init` leaves.
+pub fn named() -> [(&'static str, [u32; 6]); 6] {
+    [
+        ("SYSCLK_FREQ_48MHZ_HSE", Config::SYSCLK_FREQ_48MHZ_HSE),
+        ("SYSCLK_FREQ_72MHZ_HSE", Config::SYSCLK_FREQ_72MHZ_HSE),
+        ("SYSCLK_FREQ_96MHZ_HSE", Config::SYSCLK_FREQ_96MHZ_HSE),
+        ("SYSCLK_FREQ_48MHZ_HSI", Config::SYSCLK_FREQ_48MHZ_HSI),
+        ("SYSCLK_FREQ_72MHZ_HSI", Config::SYSCLK_FREQ_72MHZ_HSI),
+        ("SYSCLK_FREQ_96MHZ_HSI", Config::SYSCLK_FREQ_96MHZ_HSI),
+    ]
+    .map(|(name, config)| {
+        pac::put([0; 8]);
+        unsafe { init(config) };
+        (name, rcc::clocks().numbers())
+    })
+}
+
 pub fn decode(hse: Option<u32>) -> [u32; 6] {
     unsafe { refresh_clocks(hse.map(time::Hertz)) };
     rcc::clocks().numbers()

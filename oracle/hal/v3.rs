@@ -78,6 +78,21 @@ pub fn start(setup: &Setup) -> ([u32; 6], u8) {
     (rcc::clocks().numbers(), pac::usb_doubled())
 }
 
+/// The Rust's named configurations, in its order, and the clocks that `init` leaves.
+pub fn named() -> [(&'static str, [u32; 6]); 4] {
+    [
+        ("SYSCLK_FREQ_96MHZ_HSE", Config::SYSCLK_FREQ_96MHZ_HSE),
+        ("SYSCLK_FREQ_144MHZ_HSE", Config::SYSCLK_FREQ_144MHZ_HSE),
+        ("SYSCLK_FREQ_144MHZ_HSI", Config::SYSCLK_FREQ_144MHZ_HSI),
+        ("SYSCLK_FREQ_96MHZ_HSI", Config::SYSCLK_FREQ_96MHZ_HSI),
+    ]
+    .map(|(name, config)| {
+        pac::put([0; 9]);
+        unsafe { init(config) };
+        (name, rcc::clocks().numbers())
+    })
+}
+
 pub fn decode(hse: Option<u32>) -> [u32; 6] {
     unsafe { refresh_clocks(hse.map(time::Hertz)) };
     rcc::clocks().numbers()

@@ -4,6 +4,7 @@ use crate::answer::{answer, By, Excluding};
 use crate::gen::random::Random;
 use crate::gen::{random_query, recorded};
 use crate::powerup;
+use crate::rows;
 use crate::record::{Query, QUERY};
 use crate::summary::Summary;
 use std::collections::HashMap;
@@ -47,7 +48,8 @@ fn made(seed: u64) -> Lists {
         summary: Summary::default(),
     };
     let mut random = Random(seed);
-    let mut queries = recorded(&mut random);
+    let mut queries: Vec<Query> = rows::queries().collect();
+    queries.extend(recorded(&mut random));
     fill(&mut random, &mut queries);
     for wanted in [By::Rust, By::Paper] {
         for query in &queries {

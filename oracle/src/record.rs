@@ -27,6 +27,8 @@ pub const READ_PROFILE: u8 = 0x07;
 pub const WRITE_PROFILE: u8 = 0x08;
 pub const READ_IMAGE: u8 = 0x09;
 pub const WRITE_IMAGE: u8 = 0x0a;
+pub const OWED: u8 = 0x0b;
+pub const BOUND: u8 = 0x0c;
 pub const V1_CHECK: u8 = 0x10;
 pub const V1_WRITTEN: u8 = 0x11;
 pub const V1_DECODE: u8 = 0x12;
@@ -42,7 +44,7 @@ pub const H4_PCLK: u8 = 0x32;
 pub const H4_MUL: u8 = 0x33;
 
 /// Each kind, its name, and the refusals that document 01 gives it.
-pub const KINDS: [(u8, &str, &[u8]); 23] = [
+pub const KINDS: [(u8, &str, &[u8]); 25] = [
     (
         CHECK,
         "V4x7 check",
@@ -61,6 +63,8 @@ pub const KINDS: [(u8, &str, &[u8]); 23] = [
     (WRITE_PROFILE, "profile writer", &[30, 32]),
     (READ_IMAGE, "image reader", &[31]),
     (WRITE_IMAGE, "image writer", &[28, 32]),
+    (OWED, "V4x7 waits owed", &[28]),
+    (BOUND, "V4x7 call bound", &[28]),
     (V1_CHECK, "V1 check", &[3, 20, 24, 26, 28]),
     (V1_WRITTEN, "V1 fields", &[3, 20, 24, 26, 28]),
     (V1_DECODE, "V1 decoder", &[3, 24, 28]),

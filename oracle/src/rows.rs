@@ -1,7 +1,8 @@
-//! Document 01's rows A1 to A11, asked of the Rust.
+//! Document 01's rows A1 to A11, and the Rust's own named configurations, asked of the Rust.
 
 use crate::answer::{answer, Excluding};
 use crate::gen::config::{set_frequency, DEFAULT};
+use crate::gen::family::named_check;
 use crate::gen::good::GOOD;
 use crate::paper::layout::config_of;
 use crate::record::*;
@@ -83,10 +84,51 @@ fn rows_6_to_11() -> Vec<Row> {
     ]
 }
 
-/// Whether the Rust gives every row, and accepts every configuration that the generator takes for good.
-pub fn run() -> Result<bool, String> {
+fn rows() -> impl Iterator<Item = Row> {
+    rows_1_to_5().into_iter().chain(rows_6_to_11())
+}
+
+/// The rows as queries.
+pub fn queries() -> impl Iterator<Item = Query> {
+    rows().map(|Row(_, config, _)| query(CHECK, &[&config]))
+}
+
+/// A named configuration that doesn't give the frequency in its name: its multiplier is 6 (docs/DIFFERENCES.md, N4).
+const NOT_AS_NAMED: (u8, &str, u32) = (V30X_CHECK, "SYSCLK_FREQ_96MHZ_HSE", 48_000_000);
+
+/// The frequency in a name: `SYSCLK_FREQ_48MHZ_HSE`.
+fn in_name(kind: u8, name: &str) -> u32 {
+    if (kind, name) == (NOT_AS_NAMED.0, NOT_AS_NAMED.1) {
+        return NOT_AS_NAMED.2;
+    }
+    let digits = name.chars().filter(char::is_ascii_digit).collect::<String>();
+    digits.parse::<u32>().map_or(0, |mhz| 1_000_000 * mhz)
+}
+
+/// Whether each named configuration gives the frequency in its name, and our query of it the clocks that the Rust's own constant gives.
+fn named_run() -> bool {
     let mut right = true;
-    for Row(name, config, want) in rows_1_to_5().into_iter().chain(rows_6_to_11()) {
+    let lists: [(u8, &[(&str, [u32; 6])]); 3] = [
+        (V1_CHECK, &hal_v1::named()),
+        (L1_CHECK, &hal_l1::named()),
+        (V30X_CHECK, &hal_v30x::named()),
+    ];
+    for (kind, list) in lists {
+        for (at, (name, clocks)) in list.iter().enumerate() {
+            let a = answer(&named_check(kind, at), Excluding { listed: true }).0;
+            if a[1] != 0 || a[2..26] != clock_bytes(*clocks) || clocks[0] != in_name(kind, name) {
+                println!("{} {} differs: the Rust's clocks are {:?}, asked by codes {}", name_of(kind), name, clocks, hex(&a));
+                right = false;
+            }
+        }
+    }
+    right
+}
+
+/// Whether the Rust gives every row and what its named configurations say, and accepts every configuration that the generator takes for good.
+pub fn run() -> Result<bool, String> {
+    let mut right = named_run();
+    for Row(name, config, want) in rows() {
         let a = answer(&query(CHECK, &[&config]), Excluding { listed: true }).0;
         let fits = match want {
             Refused(number) => a[1] == number,
@@ -104,7 +146,7 @@ pub fn run() -> Result<bool, String> {
         }
     }
     if right {
-        println!("rows A1 to A11: the Rust gives them");
+        println!("rows A1 to A11, and named configurations: the Rust gives them");
     }
     Ok(right)
 }

@@ -3,12 +3,16 @@ use crate::calls::{wontabeli_h4_ahb, wontabeli_h4_clocks, wontabeli_h4_hclk, won
 use crate::numbers::{CHECK_WORDS, MORE, PAIR_WORDS};
 use crate::{result, Clocks, Refusal};
 
-/// The codes of the four prescalers.
+/// The four prescalers, as the registers hold them.
 #[derive(Clone, Copy, Debug, Default, PartialEq, Eq)]
 pub struct Prescale {
+    /// The AHB's code, as `AhbPrescaler` has it; 1 to 7 divide by 1 too.
     pub hpre: u8,
+    /// Of FPRE two bits count: 0 by 1, 1 by 2, 2 and 3 by 4.
     pub fpre: u8,
+    /// The first APB bus's code, as `ApbPrescaler` has it; 1 to 3 divide by 1 too.
     pub ppre1: u8,
+    /// The second APB bus's code.
     pub ppre2: u8,
 }
 

@@ -1,19 +1,30 @@
-//! Safe types over the proved clock library. Each call gives what include/wontabeli.h says of it, or the refusal that comes first in document 01's
-//! order. Nothing here decides anything: records are laid out and taken apart, and handed on. The codes are those of docs/FORMATS.md.
+//! Safe types over the proved clock library for CH32 chips. Each call gives what include/wontabeli.h says of it, or a refusal: the first in the order of
+//! docs/REFUSALS.md. Nothing here decides anything: records are laid out and taken apart, and handed on. V4x7 is at the root, the other families in
+//! modules. The archive that is linked is for x86-64 hosts.
 #![no_std]
+#![warn(missing_docs)]
+
+#[cfg(feature = "std")]
+extern crate std;
 
 pub mod h4;
+#[allow(missing_docs)] // a place is told by its name
 pub mod numbers;
 pub mod v1;
 pub mod v30x;
 
 mod calls;
+#[allow(missing_docs)] // a value is told by its name
+mod codes;
 mod profile;
 mod refusal;
 mod startup;
 mod usb;
 mod v4x7;
 
+pub use codes::{
+    AdcDutyCycle, AdcPrescaler, AhbPrescaler, ApbPrescaler, HsPllSource, PllMul, PllSource, RngClockSource, SysPllPrescaler, SysPllSource, Sysclk,
+};
 pub use profile::{read_image, write_image, AdcClockSource, Config, Hse};
 pub use refusal::Refusal;
 pub use startup::{call_bound, waits_owed, Chip, FlashKey, KeyRegister, Reading, Report, Startup};
@@ -24,11 +35,17 @@ use core::num::NonZeroU32;
 /// The six clocks, in Hz.
 #[derive(Clone, Copy, Debug, PartialEq, Eq)]
 pub struct Clocks {
+    /// The system clock.
     pub sysclk: u32,
+    /// The AHB's clock: SYSCLK by the AHB's divisor.
     pub hclk: u32,
+    /// The first APB bus's clock: HCLK by its divisor.
     pub pclk1: u32,
+    /// The second APB bus's clock.
     pub pclk2: u32,
+    /// The clock of the first bus's timers: PCLK1 where its divisor is 1, else twice PCLK1 (H4: PCLK1).
     pub pclk1_tim: u32,
+    /// The clock of the second bus's timers.
     pub pclk2_tim: u32,
 }
 

@@ -1,4 +1,5 @@
-// Made by include/numbers; change the crates and run it again.
+// Made by include/numbers; change what it reads and run it again.
+//! Sizes, places in records, and values of the bytes of a startup: those of include/wontabeli_numbers.h.
 
 // The clocks, by their place in what a check or a decoder gives; MORE is the number after them.
 pub const SYSCLK: usize = 0;
@@ -38,22 +39,26 @@ pub const PLACE_STEP: usize = 18;
 pub const PLACE_UNMET: usize = 19;
 /// All readings used, four bytes.
 pub const PLACE_USED: usize = 23;
-/// 0 going; 1 over and running; 21, 22 or 23 over by that refusal.
+/// Whether the startup is over: PHASE_GOING, PHASE_RUNNING, or the refusal that ended it (21, 22 or 23).
 pub const PLACE_PHASE: usize = 27;
-/// How the last call went.
-pub const PLACE_WENT: usize = 28;
+/// What the last call reports: a REPORT_ number.
+pub const PLACE_REPORT: usize = 28;
 /// The last call's refusal: 0, 21, 22 or 23.
 pub const PLACE_NUMBER: usize = 29;
 /// The step that the last call names; 0 before the first call and with 23.
 pub const PLACE_NAMED: usize = 30;
-/// How a call went: the step is worked; at 19 the host writes the keys.
-pub const WORKED: u8 = 0;
-/// The reading did not meet the step's wait.
-pub const WAITING: u8 = 1;
-/// Over: the clocks run as the check promised.
-pub const RUNNING: u8 = 2;
-/// Over, by the refusal in the place.
-pub const FAILED: u8 = 3;
+/// In byte PLACE_PHASE: not over, call again.
+pub const PHASE_GOING: u8 = 0;
+/// In byte PLACE_PHASE: over, and the clocks run as the check promised.
+pub const PHASE_RUNNING: u8 = 1;
+/// In byte PLACE_REPORT: the step is worked; at 19 the host writes the keys.
+pub const REPORT_WORKED: u8 = 0;
+/// In byte PLACE_REPORT: the reading did not meet the step's wait.
+pub const REPORT_WAITING: u8 = 1;
+/// In byte PLACE_REPORT: over, and the clocks run as the check promised.
+pub const REPORT_RUNNING: u8 = 2;
+/// In byte PLACE_REPORT: over, by the refusal in byte PLACE_NUMBER.
+pub const REPORT_FAILED: u8 = 3;
 /// HSI is ready. A reading is the sum of these.
 pub const HSIRDY: u16 = 1;
 /// HSE is ready.
@@ -149,3 +154,54 @@ pub const IMAGE_SCKMOD: usize = 30;
 pub const IMAGE_LOCK: usize = 31;
 pub const IMAGE_FLOCK: usize = 32;
 pub const IMAGE_FILLING: usize = 33;
+
+// The places in the record V1_CONFIG.
+pub const V1_CONFIG_HSE_PRESENT: usize = 0;
+pub const V1_CONFIG_HSE_BYPASS: usize = 1;
+pub const V1_CONFIG_HSE_FREQUENCY: usize = 2;
+pub const V1_CONFIG_SYSTEM_CLOCK: usize = 6;
+pub const V1_CONFIG_PLL_FROM_HSE: usize = 7;
+pub const V1_CONFIG_PLL_PRESENT: usize = 8;
+pub const V1_CONFIG_PLL_HALVED: usize = 9;
+pub const V1_CONFIG_MULTIPLIER: usize = 10;
+pub const V1_CONFIG_AHB: usize = 11;
+pub const V1_CONFIG_APB1: usize = 12;
+pub const V1_CONFIG_APB2: usize = 13;
+
+// The places in the record V1_FIELDS.
+pub const V1_FIELDS_SWS: usize = 0;
+pub const V1_FIELDS_PLLSRC: usize = 1;
+pub const V1_FIELDS_PLLXTPRE: usize = 2;
+pub const V1_FIELDS_PLLMUL: usize = 3;
+pub const V1_FIELDS_HPRE: usize = 4;
+pub const V1_FIELDS_PPRE1: usize = 5;
+pub const V1_FIELDS_PPRE2: usize = 6;
+pub const V1_FIELDS_HSI_PREDIVIDER: usize = 7;
+
+// The places in the record V30X_CONFIG.
+pub const V30X_CONFIG_HSE_PRESENT: usize = 0;
+pub const V30X_CONFIG_HSE_BYPASS: usize = 1;
+pub const V30X_CONFIG_HSE_FREQUENCY: usize = 2;
+pub const V30X_CONFIG_SYSTEM_CLOCK: usize = 6;
+pub const V30X_CONFIG_PLL_SOURCE: usize = 7;
+pub const V30X_CONFIG_PLL_PRESENT: usize = 8;
+pub const V30X_CONFIG_PREDIVIDER: usize = 9;
+pub const V30X_CONFIG_MULTIPLIER: usize = 10;
+pub const V30X_CONFIG_PLLX: usize = 11;
+pub const V30X_CONFIG_AHB: usize = 12;
+pub const V30X_CONFIG_APB1: usize = 13;
+pub const V30X_CONFIG_APB2: usize = 14;
+pub const V30X_CONFIG_USBHS_FROM_HSE: usize = 15;
+pub const V30X_CONFIG_USBHS_PRESENT: usize = 16;
+pub const V30X_CONFIG_USBHS_PRESCALER: usize = 17;
+
+// The places in the record V30X_FIELDS.
+pub const V30X_FIELDS_SWS: usize = 0;
+pub const V30X_FIELDS_PLLSRC: usize = 1;
+pub const V30X_FIELDS_PREDIV1: usize = 2;
+pub const V30X_FIELDS_PREDIV1SRC: usize = 3;
+pub const V30X_FIELDS_PLLMUL: usize = 4;
+pub const V30X_FIELDS_HPRE: usize = 5;
+pub const V30X_FIELDS_PPRE1: usize = 6;
+pub const V30X_FIELDS_PPRE2: usize = 7;
+pub const V30X_FIELDS_HSI_PREDIVIDER: usize = 8;

@@ -1,8 +1,7 @@
-// Made by include/numbers; change the crates and run it again.
+// Made by include/numbers; change what it reads and run it again.
 use core::fmt;
 
-/// Why a call is refused. It shows as its text. It is no `Error`: that trait is in `core` only since Rust 1.81, and this crate is
-/// `no_std` from 1.63 on.
+/// Why a call is refused. It shows as its text. With the feature `std` it is an `Error`.
 #[derive(Clone, Copy, Debug, PartialEq, Eq)]
 #[repr(u8)]
 pub enum Refusal {
@@ -112,11 +111,12 @@ impl Refusal {
         })
     }
 
+    /// Its number.
     pub fn number(self) -> u8 {
         self as u8
     }
 
-    /// Document 01's words.
+    /// Its sentence, as docs/REFUSALS.md has it.
     pub fn text(self) -> &'static str {
         match self {
             Refusal::RngWithoutUsbhs => "RNG from USBHS PLL, and that PLL not configured.",
@@ -160,3 +160,6 @@ impl fmt::Display for Refusal {
         f.pad(self.text())
     }
 }
+
+#[cfg(feature = "std")]
+impl std::error::Error for Refusal {}

@@ -5,12 +5,19 @@ use crate::{result, Refusal};
 /// What the host read from the chip. Of `sws` and `sckmod` the low two bits count.
 #[derive(Clone, Copy, Debug, Default, PartialEq, Eq)]
 pub struct Reading {
+    /// HSI is ready.
     pub hsirdy: bool,
+    /// HSE is ready.
     pub hserdy: bool,
+    /// The main PLL is ready.
     pub pllrdy: bool,
+    /// The USBHS PLL is ready.
     pub usbhs_pllrdy: bool,
+    /// The ETH PLL is ready.
     pub eth_pllrdy: bool,
+    /// The clock in use: SWS of CFGR0.
     pub sws: u8,
+    /// The flash's mode: SCKMOD of its CTLR.
     pub sckmod: u8,
 }
 
@@ -26,7 +33,8 @@ impl Reading {
     }
 }
 
-/// What came of a call.
+/// What came of a call. `step` is the step that it names, and `used` counts the readings used so far.
+#[allow(missing_docs)] // the fields are the same in all
 #[derive(Clone, Copy, Debug, PartialEq, Eq)]
 pub enum Report {
     /// The step is worked: the host writes the fields that changed, and at 19 the keys after them.
@@ -42,14 +50,18 @@ pub enum Report {
 /// A register of the flash that takes keys.
 #[derive(Clone, Copy, Debug, PartialEq, Eq)]
 pub enum KeyRegister {
+    /// KEYR.
     Keyr,
+    /// MODEKEYR.
     ModeKeyr,
 }
 
 /// A key that the host writes at step 19, and to which register.
 #[derive(Clone, Copy, Debug, PartialEq, Eq)]
 pub struct FlashKey {
+    /// Where it goes.
     pub register: KeyRegister,
+    /// What is written there.
     pub key: u32,
 }
 
@@ -58,7 +70,7 @@ impl FlashKey {
     pub fn at(position: u8) -> Result<FlashKey, Refusal> {
         let mut out = [0; PAIR_WORDS];
         result(unsafe { wontabeli_flash_key(position, out.as_mut_ptr(), out.len()) })?;
-        let register = if out[0] == 0 { KeyRegister::Keyr } else { KeyRegister::ModeKeyr };
+        let register = if out[0] == KEYR { KeyRegister::Keyr } else { KeyRegister::ModeKeyr };
         Ok(FlashKey { register, key: out[1] })
     }
 }
@@ -91,11 +103,12 @@ impl Startup {
         Ok(Startup { place })
     }
 
-    /// A startup as it was stored; `step` refuses bytes that no starting leads to.
+    /// A startup as it was stored. `step` refuses some bytes that no starting leads to (docs/REFUSALS.md, 28); other damage is worked as it stands.
     pub fn from_bytes(place: [u8; PLACE_SIZE]) -> Startup {
         Startup { place }
     }
 
+    /// The startup's bytes, to be stored (docs/FORMATS.md has the places).
     pub fn bytes(&self) -> [u8; PLACE_SIZE] {
         self.place
     }
@@ -112,15 +125,15 @@ impl Startup {
         u32::from_be_bytes([self.place[at], self.place[at + 1], self.place[at + 2], self.place[at + 3]])
     }
 
-    /// One call: one step's work done or one reading used. A startup that ends by a refusal is `Ok(Report::Failed { .. })`; `Err` says that no starting
-    /// leads to these bytes, which then stay.
+    /// One call: one step's work done or one reading used. A startup that ends by a refusal is `Ok(Report::Failed { .. })`; `Err` says that the bytes
+    /// are refused, which then stay.
     pub fn step(&mut self, reading: Reading) -> Result<Report, Refusal> {
         result(unsafe { wontabeli_step(self.place.as_mut_ptr(), self.place.len(), reading.number()) })?;
         let (step, used) = (self.place[PLACE_NAMED], self.used());
-        Ok(match self.place[PLACE_WENT] {
-            WORKED => Report::Worked { step, used },
-            WAITING => Report::Waiting { step, used },
-            RUNNING => Report::Running { step, used },
+        Ok(match self.place[PLACE_REPORT] {
+            REPORT_WORKED => Report::Worked { step, used },
+            REPORT_WAITING => Report::Waiting { step, used },
+            REPORT_RUNNING => Report::Running { step, used },
             _ => {
                 let refusal = Refusal::from_number(self.place[PLACE_NUMBER]).unwrap_or(Refusal::CodeNotAllowed);
                 Report::Failed { refusal, step, used }
@@ -129,21 +142,29 @@ impl Startup {
     }
 
     /// Calls until the startup is over, and gives its last report. In each turn it reads, calls, writes the image, and at step 19 then the keys: fields
-    /// written after the keys would lock the flash again.
+    /// written after the keys would lock the flash again. It makes no more calls than `call_bound` says, which is proved to be enough; so a report
+    /// `Worked` or `Waiting` can come back only where what is linked is not the proved archive.
     pub fn run(&mut self, chip: &mut impl Chip) -> Result<Report, Refusal> {
-        loop {
-            let report = self.step(chip.read())?;
-            chip.write(self.image());
-            match report {
-                Report::Worked { step: 19, .. } => {
-                    for position in 0..4 {
-                        chip.write_key(FlashKey::at(position)?);
-                    }
-                }
-                Report::Worked { .. } | Report::Waiting { .. } => {}
-                Report::Running { .. } | Report::Failed { .. } => return Ok(report),
+        let mut report = self.turn(chip)?;
+        for _ in 1..call_bound(&self.place[..PROFILE_SIZE])? {
+            if let Report::Running { .. } | Report::Failed { .. } = report {
+                break;
+            }
+            report = self.turn(chip)?;
+        }
+        Ok(report)
+    }
+
+    // A reading, a call, and what the host then writes.
+    fn turn(&mut self, chip: &mut impl Chip) -> Result<Report, Refusal> {
+        let report = self.step(chip.read())?;
+        chip.write(self.image());
+        if let Report::Worked { step: 19, .. } = report {
+            for position in 0..4 {
+                chip.write_key(FlashKey::at(position)?);
             }
         }
+        Ok(report)
     }
 }
 

@@ -1,51 +1,67 @@
 //! CH32V1 and CH32L1.
 use crate::calls::{wontabeli_v1_check, wontabeli_v1_decode, wontabeli_v1_init_fields};
-use crate::numbers::{CHECK_WORDS, CLOCKS_WORDS, V1_CONFIG_SIZE, V1_FIELDS_SIZE, V1_PART_L1, V1_PART_V1};
-use crate::{hertz, lay_hse, result, Clocks, Hse, Refusal};
+use crate::numbers::*;
+use crate::{hertz, lay_hse, result, ApbPrescaler, Clocks, Hse, Refusal, Sysclk};
 use core::num::NonZeroU32;
 
+pub use crate::codes::v1::{AhbPrescaler, PllMul};
 pub use crate::usb::Checked;
 
 /// Which of the two parts.
 #[derive(Clone, Copy, Debug, PartialEq, Eq)]
 #[repr(u8)]
 pub enum Part {
+    /// CH32V1.
     V1 = V1_PART_V1,
+    /// CH32L1.
     L1 = V1_PART_L1,
 }
 
-/// The PLL: whether its input is halved, and the multiplier's code.
+/// The PLL.
 #[derive(Clone, Copy, Debug, PartialEq, Eq)]
 pub struct Pll {
+    /// Its input is halved.
     pub halved: bool,
-    pub mul: u8,
+    /// Its multiplier.
+    pub mul: PllMul,
 }
 
-/// A configuration, by the codes of its fields.
+/// A configuration. The default runs from HSI, undivided.
 #[derive(Clone, Copy, Debug, Default, PartialEq, Eq)]
 pub struct Config {
+    /// The crystal, or the clock fed in, where there is one.
     pub hse: Option<Hse>,
-    pub sys: u8,
+    /// What the system clock is.
+    pub sys: Sysclk,
+    /// The PLL runs from HSE; else from HSI.
     pub pll_from_hse: bool,
+    /// The PLL, where it is on.
     pub pll: Option<Pll>,
-    pub ahb_pre: u8,
-    pub apb1_pre: u8,
-    pub apb2_pre: u8,
+    /// By what the AHB divides SYSCLK.
+    pub ahb_pre: AhbPrescaler,
+    /// By what the first APB bus divides HCLK.
+    pub apb1_pre: ApbPrescaler,
+    /// By what the second APB bus divides HCLK.
+    pub apb2_pre: ApbPrescaler,
 }
 
-/// The register fields, one a byte: SWS, PLLSRC, PLLXTPRE, PLLMUL, HPRE, PPRE1, PPRE2, the HSI predivider bit.
+/// The register fields, one a byte, at the places `numbers::V1_FIELDS_..`.
 pub type Fields = [u8; V1_FIELDS_SIZE];
 
 impl Config {
     fn record(&self) -> [u8; V1_CONFIG_SIZE] {
         let mut b = [0; V1_CONFIG_SIZE];
         lay_hse(&mut b, self.hse);
-        b[6] = self.sys;
-        b[7] = u8::from(self.pll_from_hse);
+        b[V1_CONFIG_SYSTEM_CLOCK] = self.sys.code();
+        b[V1_CONFIG_PLL_FROM_HSE] = u8::from(self.pll_from_hse);
         if let Some(Pll { halved, mul }) = self.pll {
-            b[8..11].copy_from_slice(&[1, u8::from(halved), mul]);
+            b[V1_CONFIG_PLL_PRESENT] = 1;
+            b[V1_CONFIG_PLL_HALVED] = u8::from(halved);
+            b[V1_CONFIG_MULTIPLIER] = mul.code();
         }
-        b[11..].copy_from_slice(&[self.ahb_pre, self.apb1_pre, self.apb2_pre]);
+        b[V1_CONFIG_AHB] = self.ahb_pre.code();
+        b[V1_CONFIG_APB1] = self.apb1_pre.code();
+        b[V1_CONFIG_APB2] = self.apb2_pre.code();
         b
     }
 }

@@ -1,60 +1,68 @@
 //! CH32V30x.
 use crate::calls::{wontabeli_v30x_check, wontabeli_v30x_decode, wontabeli_v30x_init_fields};
-use crate::numbers::{CHECK_WORDS, CLOCKS_WORDS, V30X_CONFIG_SIZE, V30X_FIELDS_SIZE};
-use crate::{hertz, lay_hse, result, Clocks, Hse, Refusal};
+use crate::numbers::*;
+use crate::{hertz, lay_hse, result, ApbPrescaler, Clocks, Hse, Refusal, Sysclk};
 use core::num::NonZeroU32;
 
+pub use crate::codes::v30x::{AhbPrescaler, HsPllPrescaler, PllMul, PllPreDiv, PllSource};
 pub use crate::usb::Checked;
 
-/// What feeds the PLL. PLL2 is refused.
-#[derive(Clone, Copy, Debug, Default, PartialEq, Eq)]
-#[repr(u8)]
-pub enum PllSource {
-    #[default]
-    Hsi = 0,
-    Hse = 1,
-    Pll2 = 2,
-}
-
-/// The PLL: its predivider less one, and the multiplier's code.
+/// The PLL.
 #[derive(Clone, Copy, Debug, PartialEq, Eq)]
 pub struct Pll {
-    pub prediv: u8,
-    pub mul: u8,
+    /// By what its input is divided; HSI by 1 or 2 alone.
+    pub prediv: PllPreDiv,
+    /// Its multiplier.
+    pub mul: PllMul,
 }
 
-/// A configuration, by the codes of its fields.
+/// A configuration. The default runs from HSI, undivided.
 #[derive(Clone, Copy, Debug, Default, PartialEq, Eq)]
 pub struct Config {
+    /// The crystal, or the clock fed in, where there is one.
     pub hse: Option<Hse>,
-    pub sys: u8,
+    /// What the system clock is.
+    pub sys: Sysclk,
+    /// What feeds the PLL.
     pub pll_src: PllSource,
+    /// The PLL, where it is on.
     pub pll: Option<Pll>,
     /// PLL2 or PLL3 is asked for, which is refused.
     pub pllx: bool,
-    pub ahb_pre: u8,
-    pub apb1_pre: u8,
-    pub apb2_pre: u8,
+    /// By what the AHB divides SYSCLK.
+    pub ahb_pre: AhbPrescaler,
+    /// By what the first APB bus divides HCLK.
+    pub apb1_pre: ApbPrescaler,
+    /// By what the second APB bus divides HCLK.
+    pub apb2_pre: ApbPrescaler,
+    /// The USBHS PLL runs from HSE; else from HSI.
     pub hspll_from_hse: bool,
-    /// The USBHS PLL's prescaler less one.
-    pub hspll: Option<u8>,
+    /// By what the USBHS PLL's input is divided, where it is on.
+    pub hspll: Option<HsPllPrescaler>,
 }
 
-/// The register fields, one a byte: SWS, PLLSRC, PREDIV1, PREDIV1SRC, PLLMUL, HPRE, PPRE1, PPRE2, the HSI predivider bit.
+/// The register fields, one a byte, at the places `numbers::V30X_FIELDS_..`.
 pub type Fields = [u8; V30X_FIELDS_SIZE];
 
 impl Config {
     fn record(&self) -> [u8; V30X_CONFIG_SIZE] {
         let mut b = [0; V30X_CONFIG_SIZE];
         lay_hse(&mut b, self.hse);
-        b[6] = self.sys;
-        b[7] = self.pll_src as u8;
+        b[V30X_CONFIG_SYSTEM_CLOCK] = self.sys.code();
+        b[V30X_CONFIG_PLL_SOURCE] = self.pll_src.code();
         if let Some(Pll { prediv, mul }) = self.pll {
-            b[8..11].copy_from_slice(&[1, prediv, mul]);
+            b[V30X_CONFIG_PLL_PRESENT] = 1;
+            b[V30X_CONFIG_PREDIVIDER] = prediv.code();
+            b[V30X_CONFIG_MULTIPLIER] = mul.code();
         }
-        b[11..16].copy_from_slice(&[u8::from(self.pllx), self.ahb_pre, self.apb1_pre, self.apb2_pre, u8::from(self.hspll_from_hse)]);
-        if let Some(pre) = self.hspll {
-            b[16..].copy_from_slice(&[1, pre]);
+        b[V30X_CONFIG_PLLX] = u8::from(self.pllx);
+        b[V30X_CONFIG_AHB] = self.ahb_pre.code();
+        b[V30X_CONFIG_APB1] = self.apb1_pre.code();
+        b[V30X_CONFIG_APB2] = self.apb2_pre.code();
+        b[V30X_CONFIG_USBHS_FROM_HSE] = u8::from(self.hspll_from_hse);
+        if let Some(prescaler) = self.hspll {
+            b[V30X_CONFIG_USBHS_PRESENT] = 1;
+            b[V30X_CONFIG_USBHS_PRESCALER] = prescaler.code();
         }
         b
     }

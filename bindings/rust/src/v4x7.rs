@@ -6,7 +6,9 @@ use core::num::NonZeroU32;
 /// What a checked profile promises: the clocks, and the ADC's frequency.
 #[derive(Clone, Copy, Debug, PartialEq, Eq)]
 pub struct Checked {
+    /// The six clocks.
     pub clocks: Clocks,
+    /// The ADC's frequency in Hz, rounded down.
     pub adc: u32,
 }
 

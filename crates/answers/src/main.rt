@@ -19,6 +19,7 @@ fn answer(q: &[u8; 128]) -> [u8; 64] {
         0x08 => codec::write_profile(q),
         0x09 => codec::read_image(q),
         0x0a => codec::write_image(q),
+        0x0b | 0x0c => power::owed(kind, q),
         _ => families::answer(kind, q),
     }
 }

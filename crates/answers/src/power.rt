@@ -1,6 +1,7 @@
 // Whole startups over a script of readings, and one call of a startup as it stands.
 use crate::query;
 use crate::reply;
+use answer::Reply;
 use image::Fields;
 use startup::FlashKey;
 use startup::Phase;
@@ -210,6 +211,16 @@ fn put_keys(a: [u8; 64], keyed: u32) -> [u8; 64] {
     reply::byte(four, 60, (keyed % 256) as u8)
 }
 
+// The low three bytes of the unmet readings.
+fn put_unmet(a: [u8; 64], unmet: u32) -> [u8; 64] {
+    let b = reply::byte(a, 61, (unmet / 65536 % 256) as u8);
+    reply::byte(
+        reply::byte(b, 62, (unmet / 256 % 256) as u8),
+        63,
+        (unmet % 256) as u8,
+    )
+}
+
 fn told(kind: u8, r: Run) -> [u8; 64] {
     let startup = r.startup;
     let report = r.report;
@@ -220,9 +231,12 @@ fn told(kind: u8, r: Run) -> [u8; 64] {
         startup::named_step(report),
     );
     let b = reply::word(reply::byte(a, 3, over(startup)), 4, used(report, startup));
-    put_keys(
-        put_decoded(put_image(reply::word(b, 8, r.calls), fields), startup),
-        r.keyed,
+    put_unmet(
+        put_keys(
+            put_decoded(put_image(reply::word(b, 8, r.calls), fields), startup),
+            r.keyed,
+        ),
+        startup.unmet,
     )
 }
 
@@ -251,22 +265,21 @@ pub fn startup(q: &[u8; 128]) -> [u8; 64] {
     }
 }
 
-// A startup handed back as it was: its step and unmet readings are shown too.
-fn put_handed_back(a: [u8; 64], startup: Startup) -> [u8; 64] {
-    let unmet = startup.unmet;
-    let b = reply::byte(
-        reply::byte(a, 60, startup.step),
-        61,
-        (unmet / 65536 % 256) as u8,
-    );
-    reply::byte(
-        reply::byte(b, 62, (unmet / 256 % 256) as u8),
-        63,
-        (unmet % 256) as u8,
-    )
+// Not over, or over by the last answer: its number (0: running), the step that it names and the readings that it counts.
+fn phase(q: &[u8; 128]) -> Phase {
+    if q[68] == 0 {
+        return Phase::Going;
+    }
+    let step = q[70];
+    let used = query::word(q, 71);
+    match q[69] {
+        0 => Phase::Over(Report::Running { step, used }),
+        23 => Phase::Over(Report::Refused(23)),
+        number => Phase::Over(Report::Failed { number, step, used }),
+    }
 }
 
-// A startup that is not over, as it stands in the query.
+// A startup as it stands in the query.
 fn handed_in(q: &[u8; 128]) -> Startup {
     Startup {
         config: query::config(q),
@@ -274,7 +287,7 @@ fn handed_in(q: &[u8; 128]) -> Startup {
         step: q[57],
         unmet: query::word(q, 58),
         used: query::word(q, 62),
-        phase: Phase::Going,
+        phase: phase(q),
     }
 }
 
@@ -290,7 +303,21 @@ pub fn call(q: &[u8; 128]) -> [u8; 64] {
     };
     let a = told(6, run_of(after, report, 1, keyed));
     if startup::number(report) == answer::CODE_NOT_ALLOWED {
-        return put_handed_back(a, after);
+        return reply::byte(a, 60, after.step);
     }
     a
+}
+
+// What a host asks before it starts: the waits owed, and the bound of the calls.
+pub fn owed(kind: u8, q: &[u8; 128]) -> [u8; 64] {
+    let config = query::config(q);
+    let answer = if kind == 0x0b {
+        startup::waits_owed(config)
+    } else {
+        startup::call_bound(config)
+    };
+    match answer {
+        Reply::Refused(n) => reply::empty(kind, n),
+        Reply::Is(x) => reply::word(reply::empty(kind, 0), 2, x),
+    }
 }

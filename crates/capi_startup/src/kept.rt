@@ -6,19 +6,21 @@ ghost use lib.ListN.{length};
 ghost use Rattle.startup.specs.Call.{begun};
 ghost use Rattle.lent.specs.Given.{Given};
 ghost use Rattle.capi_startup.specs.Kept.{phaseOf, lastTag, tagOf, wentOf, standingOf, keptOf, tailOf, placeOf};
-use crate::FAILED;
+use crate::PHASE_GOING;
+use crate::PHASE_RUNNING;
 use crate::PLACE_IMAGE;
 use crate::PLACE_NAMED;
 use crate::PLACE_NUMBER;
 use crate::PLACE_PHASE;
+use crate::PLACE_REPORT;
 use crate::PLACE_SIZE;
 use crate::PLACE_STEP;
 use crate::PLACE_UNMET;
 use crate::PLACE_USED;
-use crate::PLACE_WENT;
-use crate::RUNNING;
-use crate::WAITING;
-use crate::WORKED;
+use crate::REPORT_FAILED;
+use crate::REPORT_RUNNING;
+use crate::REPORT_WAITING;
+use crate::REPORT_WORKED;
 use answer::Outcome;
 use image::Fields;
 use image::ReadImage;
@@ -36,10 +38,10 @@ use v4x7::Config;
 fn phase(tag: u8, step: u8, used: u32) -> Phase
     ensures { λ r. ⌜ r ≡ phaseOf tag step used ⌝ }
 {
-    if tag == 0 {
+    if tag == PHASE_GOING {
         return Phase::Going;
     }
-    if tag == 1 {
+    if tag == PHASE_RUNNING {
         return Phase::Over(Report::Running { step, used });
     }
     if (tag == answer::WAIT_FAILED) | (tag == answer::FLASH_MODE_DIFFERS) {
@@ -62,7 +64,7 @@ fn last_tag(last: Report) -> u8
     match last {
         Report::Worked { step: _, used: _ } => answer::CODE_NOT_ALLOWED,
         Report::Waiting { step: _, used: _ } => answer::CODE_NOT_ALLOWED,
-        Report::Running { step: _, used: _ } => 1,
+        Report::Running { step: _, used: _ } => PHASE_RUNNING,
         Report::Failed {
             number,
             step: _,
@@ -77,7 +79,7 @@ fn tag(phase: Phase) -> u8
     ensures { λ r. ⌜ r ≡ tagOf phase ⌝ }
 {
     match phase {
-        Phase::Going => 0,
+        Phase::Going => PHASE_GOING,
         Phase::Over(last) => last_tag(last),
     }
 }
@@ -87,15 +89,15 @@ fn went(report: Report) -> u8
     ensures { λ r. ⌜ r ≡ wentOf report ⌝ }
 {
     match report {
-        Report::Worked { step: _, used: _ } => WORKED,
-        Report::Waiting { step: _, used: _ } => WAITING,
-        Report::Running { step: _, used: _ } => RUNNING,
+        Report::Worked { step: _, used: _ } => REPORT_WORKED,
+        Report::Waiting { step: _, used: _ } => REPORT_WAITING,
+        Report::Running { step: _, used: _ } => REPORT_RUNNING,
         Report::Failed {
             number: _,
             step: _,
             used: _,
-        } => FAILED,
-        Report::Refused(_) => FAILED,
+        } => REPORT_FAILED,
+        Report::Refused(_) => REPORT_FAILED,
     }
 }
 
@@ -192,7 +194,7 @@ fn tail(x: Stepped) -> [u8; 14]
         0,
         0,
     ];
-    t[PLACE_WENT - PLACE_STEP] = went(report);
+    t[PLACE_REPORT - PLACE_STEP] = went(report);
     t[PLACE_NUMBER - PLACE_STEP] = number(report);
     t[PLACE_NAMED - PLACE_STEP] = named_step(report);
     t

@@ -29,23 +29,28 @@ pub const PLACE_STEP: usize = 18;
 pub const PLACE_UNMET: usize = 19;
 // All readings used, four bytes.
 pub const PLACE_USED: usize = 23;
-// 0 going; 1 over and running; 21, 22 or 23 over by that refusal.
+// Whether the startup is over: PHASE_GOING, PHASE_RUNNING, or the refusal that ended it (21, 22 or 23).
 pub const PLACE_PHASE: usize = 27;
-// How the last call went.
-pub const PLACE_WENT: usize = 28;
+// What the last call reports: a REPORT_ number.
+pub const PLACE_REPORT: usize = 28;
 // The last call's refusal: 0, 21, 22 or 23.
 pub const PLACE_NUMBER: usize = 29;
 // The step that the last call names; 0 before the first call and with 23.
 pub const PLACE_NAMED: usize = 30;
 
-// How a call went: the step is worked; at 19 the host writes the keys.
-pub const WORKED: u8 = 0;
-// The reading did not meet the step's wait.
-pub const WAITING: u8 = 1;
-// Over: the clocks run as the check promised.
-pub const RUNNING: u8 = 2;
-// Over, by the refusal in the place.
-pub const FAILED: u8 = 3;
+// In byte PLACE_PHASE: not over, call again.
+pub const PHASE_GOING: u8 = 0;
+// In byte PLACE_PHASE: over, and the clocks run as the check promised.
+pub const PHASE_RUNNING: u8 = 1;
+
+// In byte PLACE_REPORT: the step is worked; at 19 the host writes the keys.
+pub const REPORT_WORKED: u8 = 0;
+// In byte PLACE_REPORT: the reading did not meet the step's wait.
+pub const REPORT_WAITING: u8 = 1;
+// In byte PLACE_REPORT: over, and the clocks run as the check promised.
+pub const REPORT_RUNNING: u8 = 2;
+// In byte PLACE_REPORT: over, by the refusal in byte PLACE_NUMBER.
+pub const REPORT_FAILED: u8 = 3;
 
 // HSI is ready. A reading is the sum of these.
 pub const HSIRDY: u16 = 1;

@@ -76,7 +76,7 @@ pub fn give_bytes(bytes: &[u8], out: &mut [u8]) -> u8
     0
 }
 
-// Gives the six clocks. Refused by 32, then as the clocks are.
+// Gives the six clocks, or hands their refusal on. 32 comes first.
 pub fn give_six(buses: Buses, out: &mut [u32]) -> u8
     ensures { λ r. ⌜ Given 6 (sixWords (running buses)) (now (out .entry)) (now (out .exit)) r ⌝ }
 {
@@ -92,7 +92,7 @@ pub fn give_six(buses: Buses, out: &mut [u32]) -> u8
     }
 }
 
-// Gives the six clocks and one more number. Refused by 32, then as they are.
+// Gives the six clocks and one more number, or hands their refusal on. 32 comes first.
 pub fn give_seven(answer: Sevenfold, out: &mut [u32]) -> u8
     ensures { λ r. ⌜ Given 7 (sevenWords (sevenfold answer)) (now (out .entry)) (now (out .exit)) r ⌝ }
 {
@@ -116,7 +116,7 @@ pub fn give_seven(answer: Sevenfold, out: &mut [u32]) -> u8
     }
 }
 
-// Gives two numbers. Refused by 32, then as they are.
+// Gives two numbers, or hands their refusal on. 32 comes first.
 pub fn give_two(answer: Twofold, out: &mut [u32]) -> u8
     ensures { λ r. ⌜ Given 2 (twoWords (twofold answer)) (now (out .entry)) (now (out .exit)) r ⌝ }
 {
@@ -132,7 +132,7 @@ pub fn give_two(answer: Twofold, out: &mut [u32]) -> u8
     }
 }
 
-// Gives one number. Refused as it is.
+// Gives one number, or hands its refusal on.
 pub fn give_one(reply: Reply, out: &mut u32) -> u8
     ensures { λ r. ⌜ GivenOne (replied reply) (now (out .entry)) (now (out .exit)) r ⌝ }
 {

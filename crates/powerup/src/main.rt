@@ -36,7 +36,7 @@ fn shown(f: Fields) -> Reading {
     }
 }
 
-// The same, but for what the step asks: that is contrary.
+// The same, except that what this step asks for is not so.
 fn contrary(f: Fields, step: u8) -> Reading {
     let mut r = shown(f);
     let other_mode = 3 - f.flash.sckmod % 4;

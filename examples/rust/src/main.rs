@@ -1,10 +1,11 @@
 //! A host in Rust: checks a profile, then starts a simulated chip with it, once with a good crystal and once with one that never swings.
 use wontabeli::numbers::*;
-use wontabeli::{check, read_image, Chip, Config, FlashKey, Hse, Reading, Refusal, Report, Startup};
+use wontabeli::{call_bound, check, read_image, Chip, Config, FlashKey, Hse, PllMul, PllSource, Reading, Refusal, Report, Startup, Sysclk};
 
 /// HSE 8 MHz, main PLL from it by 12.5, the system clock from that.
 fn config() -> Config {
-    Config { hse: Some(Hse { bypass: false, freq: 8_000_000 }), sys: 2, pll_src: 1, pll: Some(5), ..Config::default() }
+    let hse = Some(Hse { bypass: false, freq: 8_000_000 });
+    Config { hse, sys: Sysclk::Pll, pll_src: PllSource::Hse, pll: Some(PllMul::Mul12_5), ..Config::default() }
 }
 
 /// The simulated register file is an image. A crystal that fails never sets HSERDY.
@@ -45,7 +46,10 @@ fn start(profile: &[u8], crystal: bool) -> Result<(), Refusal> {
     match Startup::start(profile, &chip.image)?.run(&mut chip)? {
         Report::Running { used, .. } => println!("running, {used} readings, {} keys written", chip.keys),
         Report::Failed { refusal, step, used } => println!("stopped by {} at step {step}, {used} readings", refusal.number()),
-        report => println!("{report:?}"),
+        Report::Worked { .. } | Report::Waiting { .. } => {
+            println!("not over after {} calls", call_bound(profile)?);
+            std::process::exit(1);
+        }
     }
     Ok(())
 }

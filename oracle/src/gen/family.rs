@@ -135,6 +135,63 @@ const PLAIN: Choice = Choice {
     usbhs: None,
 };
 
+/// One query of a kind: accepted; or refused, by 3 where HSE is missing and, in V30x, by 27 before that.
+pub fn plain(kind: u8, refused: bool) -> Query {
+    let mut c = PLAIN;
+    if refused {
+        c.hse = None;
+        c.pllx = true;
+    }
+    let mut r = Random(u64::from(kind));
+    if V30X.contains(&kind) {
+        v30x_query(kind, &c, &mut r)
+    } else {
+        v1_query(kind, &c, &mut r)
+    }
+}
+
+/// The Rust's named configurations, `SYSCLK_FREQ_..`: V1's and L1's 48, 72 and 96 MHz, each from HSE and from HSI; V30x's. Codes from document 01's
+/// multipliers.
+const V1_NAMED: [(u8, u8); 3] = [(4, 0), (7, 4), (10, 4)];
+const V30X_NAMED: [(u8, u8, u8); 4] = [(1, 4, 0), (1, 0, 0), (0, 0, 0), (0, 10, 5)];
+
+pub const NAMED: usize = 3 * (2 * 6 + 4);
+pub fn named(i: usize) -> Query {
+    let mut d = Digits(i);
+    let call = d.of(3);
+    let at = d.of(2 * 6 + 4);
+    let mut r = Random(i as u64);
+    if at < 2 * 6 {
+        return v1_query(V1S[at / 6][call], &v1_named(at % 6), &mut r);
+    }
+    v30x_query(V30X[call], &v30x_named(at - 2 * 6), &mut r)
+}
+
+fn from(source: u8) -> Choice {
+    let hse = if source == 1 { PLAIN.hse } else { None };
+    Choice { hse, source, ..PLAIN }
+}
+
+fn v1_named(at: usize) -> Choice {
+    let (mul, apb) = V1_NAMED[at % 3];
+    Choice { mul, apb1: apb, apb2: apb, ..from(1 - at as u8 / 3) }
+}
+
+fn v30x_named(at: usize) -> Choice {
+    let (source, mul, apb) = V30X_NAMED[at];
+    Choice { mul, apb1: apb, apb2: apb, usbhs: Some((source == 1, 1)), ..from(source) }
+}
+
+/// The check of a named configuration, by its place in the Rust's file.
+pub fn named_check(kind: u8, at: usize) -> Query {
+    let mut r = Random(0);
+    if kind == V30X_CHECK {
+        v30x_query(kind, &v30x_named(at), &mut r)
+    } else {
+        v1_query(kind, &v1_named(at), &mut r)
+    }
+}
+
 /// HSE at which the product with a doubled multiplier passes 32 bits, and those that give the USB's 48 MHz.
 fn hse_limits(doubled: u32, pre: u8) -> [Option<u32>; 8] {
     // 6.5 is the one half multiplier: its product by 13 must fit.
@@ -166,6 +223,22 @@ pub fn v1_multipliers(i: usize) -> Query {
     c.source = d.byte(2);
     c.hse = d.from(&hse_limits(V1_DOUBLED[c.mul as usize], c.pre));
     v1_query(kind, &c, &mut Random(i as u64))
+}
+
+/// Each family: every multiplier in use from an odd HSE, in check and decoder.
+pub const MULTIPLIED: usize = 3 * 2 * 16;
+pub fn multiplied(i: usize) -> Query {
+    let mut d = Digits(i);
+    let family = d.of(3);
+    let call = d.from(&[0, 2]);
+    let mut c = PLAIN;
+    c.hse = Some(5_000_001);
+    c.mul = d.byte(16);
+    let mut r = Random(i as u64);
+    match family {
+        2 => v30x_query(V30X[call], &c, &mut r),
+        _ => v1_query(V1S[family][call], &c, &mut r),
+    }
 }
 
 /// V30x: every multiplier and predivider, by source, at boundary HSEs, through each call.

@@ -94,6 +94,44 @@ pub fn multipliers(i: usize) -> Query {
     decode(&fields, d.from(&hse_limits(DOUBLED[fields[15] as usize])))
 }
 
+/// An HSE at which a multiplier's output is in range.
+pub fn within_range(doubled: u32) -> u32 {
+    (600_000_000 / doubled).min(32_000_000)
+}
+
+/// Every multiplier in use, SYSPLL divided by 2, at an HSE that it takes.
+pub const MULTIPLIED: usize = 32;
+pub fn multiplied(i: usize) -> Query {
+    let mut fields = [0; FIELDS];
+    fields[12] = 2;
+    fields[14] = 1;
+    fields[15] = i as u8;
+    fields[24] = 6;
+    fields[25] = 1;
+    decode(&fields, Some(within_range(DOUBLED[i])))
+}
+
+/// The main PLL's output and HCLK at their limits and the nearest beyond: HSE, multiplier, SYSPLL divisor less one.
+const AT_LIMITS: [(u32, u8, u8); 6] = [
+    (11_111_111, 1, 0),
+    (12_500_000, 0, 0),
+    (25_000_000, 12, 1),
+    (27_586_207, 9, 1),
+    (12_500_000, 12, 0),
+    (11_764_706, 14, 0),
+];
+pub const EDGES: usize = AT_LIMITS.len();
+pub fn edges(i: usize) -> Query {
+    let (hse, mul, less) = AT_LIMITS[i];
+    let mut fields = [0; FIELDS];
+    fields[12] = 2;
+    fields[14] = 1;
+    fields[15] = mul;
+    fields[24] = 6;
+    fields[25] = less;
+    decode(&fields, Some(hse))
+}
+
 /// The ADC query: every ADCSRC, USBHS_PLLRDY, HPRE, PPRE2 and ADCPRE.
 pub const ADCS: usize = 2 * 2 * 16 * 8 * 4;
 pub fn adcs(i: usize) -> Query {

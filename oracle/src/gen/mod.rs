@@ -3,7 +3,7 @@
 mod check;
 mod codec;
 pub mod config;
-mod family;
+pub mod family;
 mod fields;
 pub mod good;
 mod h4;
@@ -17,10 +17,15 @@ use random::Random;
 /// A set of all combinations of something: how many, how many of them the recorded list takes, and each by its place.
 type Set = (usize, usize, fn(usize) -> Query);
 
-const SETS: [Set; 24] = [
+const SETS: [Set; 36] = [
     (check::DIVIDERS, 90, check::dividers),
     (check::MULTIPLIERS, 90, check::multipliers),
     (check::LIMITS, 180, check::limits),
+    (check::EDGES, check::EDGES, check::edges),
+    (fields::EDGES, fields::EDGES, fields::edges),
+    (check::MULTIPLIED, check::MULTIPLIED, check::multiplied),
+    (fields::MULTIPLIED, fields::MULTIPLIED, fields::multiplied),
+    (family::MULTIPLIED, family::MULTIPLIED, family::multiplied),
     (fields::DIVIDERS, 90, fields::dividers),
     (fields::MULTIPLIERS, 90, fields::multipliers),
     (fields::ADCS, 90, fields::adcs),
@@ -31,6 +36,7 @@ const SETS: [Set; 24] = [
     (family::V30X_MULTIPLIERS, 90, family::v30x_multipliers),
     (family::CHOICES, 90, family::choices),
     (family::USBHS, 90, family::usbhs),
+    (family::NAMED, family::NAMED, family::named),
     (h4::AHBS, 90, h4::ahbs),
     (h4::HCLKS, 90, h4::hclks),
     (h4::PCLKS, 90, h4::pclks),
@@ -40,7 +46,13 @@ const SETS: [Set; 24] = [
     (codec::BITS, 90, codec::bits),
     (startup::STOPPED, 150, startup::stopped),
     (startup::MODES, 90, startup::modes),
+    (startup::SWITCHED, startup::SWITCHED, startup::switched),
+    (startup::COMPARED, startup::COMPARED, startup::compared),
+    (startup::STANDING, startup::STANDING, startup::standing),
+    (startup::OVER, startup::OVER, startup::over),
+    (startup::ASKED, startup::ASKED, startup::asked),
     (startup::LONG, 0, startup::long),
+    (wide::EACH, wide::EACH, wide::each),
     (fields::SELECTIONS, 400, fields::selections),
 ];
 

@@ -1,6 +1,7 @@
 //! Codes too wide or without a name: refusal 28, and 30 from the profile writer.
 
-use super::random::Random;
+use super::good::GOOD;
+use super::random::{Digits, Random};
 use super::{config, family, fields};
 use crate::paper::layout::IMAGE;
 use crate::record::*;
@@ -99,25 +100,132 @@ fn h4(r: &mut Random) -> Query {
     }
 }
 
-/// A V1, L1 or V30x query with one code made too wide.
+/// Places of the codes in V1's and V30x's fields and configurations, each with the largest.
+const V1_FIELD_CODES: [(usize, u8); 5] = [(0, 3), (3, 15), (4, 15), (5, 7), (6, 7)];
+const V1_CONFIG_CODES: [(usize, u8); 5] = [(6, 3), (10, 15), (11, 15), (12, 7), (13, 7)];
+const V30X_FIELD_CODES: [(usize, u8); 6] = [(0, 3), (2, 15), (4, 15), (5, 15), (6, 7), (7, 7)];
+const V30X_CONFIG_CODES: [(usize, u8); 7] = [(6, 3), (9, 15), (10, 15), (12, 15), (13, 7), (14, 7), (17, 7)];
+
+/// Where the codes of these kinds stand: the kind, the place of the first, and the codes behind it.
+type Codes = (u8, usize, &'static [(usize, u8)]);
+const OTHERS: [Codes; 12] = [
+    (V1_CHECK, 1, &V1_CONFIG_CODES),
+    (V1_WRITTEN, 1, &V1_CONFIG_CODES),
+    (V1_WRITTEN, 1 + V1_CONFIG, &V1_FIELD_CODES),
+    (V1_DECODE, 1, &V1_FIELD_CODES),
+    (L1_CHECK, 1, &V1_CONFIG_CODES),
+    (L1_WRITTEN, 1, &V1_CONFIG_CODES),
+    (L1_WRITTEN, 1 + V1_CONFIG, &V1_FIELD_CODES),
+    (L1_DECODE, 1, &V1_FIELD_CODES),
+    (V30X_CHECK, 1, &V30X_CONFIG_CODES),
+    (V30X_WRITTEN, 1, &V30X_CONFIG_CODES),
+    (V30X_WRITTEN, 1 + V30X_CONFIG, &V30X_FIELD_CODES),
+    (V30X_DECODE, 1, &V30X_FIELD_CODES),
+];
+
+/// A V1, L1 or V30x query with one code made too wide, of the configuration or of the earlier fields.
 fn other_family(r: &mut Random) -> Query {
     let mut q = family::random(r);
-    let v1 = q[0] < V30X_CHECK;
-    let decode = q[0] == V1_DECODE || q[0] == L1_DECODE || q[0] == V30X_DECODE;
-    // Places behind the kind, each with the largest code: of fields, then of configurations.
-    let places: &[(usize, u8)] = match (decode, v1) {
-        (true, true) => &[(0, 3), (3, 15), (4, 15), (5, 7), (6, 7)],
-        (true, false) => &[(0, 3), (2, 15), (4, 15), (5, 15), (6, 7), (7, 7)],
-        (false, true) => &[(6, 3), (10, 15), (11, 15), (12, 7), (13, 7)],
-        (false, false) => &[(6, 3), (9, 15), (10, 15), (12, 15), (13, 7), (14, 7), (17, 7)],
-    };
-    let (at, largest) = r.pick(places);
-    if !decode {
+    let groups: Vec<Codes> = OTHERS.iter().copied().filter(|group| group.0 == q[0]).collect();
+    let (_, from, codes) = r.pick(&groups);
+    let (at, largest) = r.pick(codes);
+    widened(&mut q, from, at, beyond(r, largest));
+    q
+}
+
+/// A code of an absent part is none: PLL and USBHS PLL are made present.
+fn widened(q: &mut Query, from: usize, at: usize, code: u8) {
+    let in_config = from == 1 && ![V1_DECODE, L1_DECODE, V30X_DECODE].contains(&q[0]);
+    if in_config {
         q[1 + 8] = 1;
     }
-    if !decode && !v1 && at == 17 {
+    if in_config && at == 17 {
         q[1 + 16] = 1;
     }
-    q[1 + at] = beyond(r, largest);
+    q[from + at] = code;
+}
+
+/// V4x7 kinds with a configuration, and with fields; and how many fields have more than one bit.
+const WITH_CONFIG: [u8; 6] = [CHECK, STARTUP, CALL, WRITE_PROFILE, OWED, BOUND];
+const WITH_FIELDS: [u8; 6] = [DECODE, ADC, RNG, WRITE_IMAGE, STARTUP, CALL];
+const WIDE_FIELDS: usize = 14;
+const CONFIGS: usize = WITH_CONFIG.len() * (CODES.len() + HOLES.len());
+const FIELDS_OF: usize = WITH_FIELDS.len() * WIDE_FIELDS;
+const OTHER: usize = {
+    let (mut sum, mut at) = (0, 0);
+    while at < OTHERS.len() {
+        sum += OTHERS[at].2.len();
+        at += 1;
+    }
+    sum
+};
+
+/// Each code of each call by itself one too wide, or without a name: where all else is accepted, and where all else is refused too.
+pub const EACH: usize = (CONFIGS + FIELDS_OF + OTHER) * 2;
+pub fn each(i: usize) -> Query {
+    let refused = i % 2 == 1;
+    let i = i / 2;
+    if i < CONFIGS {
+        return one_config(Digits(i), refused);
+    }
+    if i < CONFIGS + FIELDS_OF {
+        return one_fields(Digits(i - CONFIGS), refused);
+    }
+    let mut left = i - CONFIGS - FIELDS_OF;
+    let mut group = OTHERS[0];
+    for one in OTHERS {
+        group = one;
+        if left < one.2.len() {
+            break;
+        }
+        left -= one.2.len();
+    }
+    let (kind, from, codes) = group;
+    let mut q = family::plain(kind, refused);
+    widened(&mut q, from, codes[left].0, codes[left].1 + 1);
     q
+}
+
+/// A configuration with every part; refused: by 4.
+fn one_config(mut d: Digits, refused: bool) -> Query {
+    let kind = d.from(&WITH_CONFIG);
+    let place = d.of(CODES.len() + HOLES.len());
+    let mut config = GOOD[10];
+    let (at, code) = match CODES.get(place) {
+        Some((at, largest)) => (*at, largest + 1),
+        None => HOLES[place - CODES.len()],
+    };
+    config[at] = code;
+    if refused {
+        config::set_frequency(&mut config, 4_999_999);
+    }
+    with(kind, &config, &[0; FIELDS])
+}
+
+/// Fields all zero; refused: by 3 in the decoder, by 4 in the startup's calls.
+fn one_fields(mut d: Digits, refused: bool) -> Query {
+    let kind = d.from(&WITH_FIELDS);
+    let codes: Vec<usize> = (0..FIELDS).filter(|at| IMAGE[*at] > 1).collect();
+    assert_eq!(codes.len(), WIDE_FIELDS);
+    let at = d.from(&codes);
+    let mut config = GOOD[10];
+    let mut fields = [0; FIELDS];
+    if refused {
+        config::set_frequency(&mut config, 4_999_999);
+        fields[12] = 1;
+    }
+    fields[at] = 1 << IMAGE[at];
+    with(kind, &config, &fields)
+}
+
+/// A V4x7 query of a kind: at step 1 with no reading, or with ten lent bytes.
+fn with(kind: u8, config: &[u8; CONFIG], fields: &[u8; FIELDS]) -> Query {
+    match kind {
+        STARTUP => super::startup::startup(config, fields, 10, &vec![(1, [0x80, 0])]),
+        CALL => query(CALL, &[config, fields, &[1]]),
+        WRITE_PROFILE => query(kind, &[config, &[10, 0xee]]),
+        WRITE_IMAGE => query(kind, &[fields, &[10, 0xee]]),
+        CHECK | OWED | BOUND => query(kind, &[config]),
+        _ => query(kind, &[fields]),
+    }
 }

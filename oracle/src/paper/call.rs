@@ -1,4 +1,5 @@
-//! One call of a startup as it stands (document 01, "Startup steps"). The Rust's `init` can't be entered half way.
+//! One call of a startup as it stands, and what a host asks before it starts one (document 01, "Startup steps"). The Rust's `init` can't be entered
+//! half way.
 
 use super::codes;
 use super::layout::image_of;
@@ -10,7 +11,7 @@ const KEYS: [u8; 16] = [
     0x45, 0x67, 0x01, 0x23, 0xcd, 0xef, 0x89, 0xab, 0x45, 0x67, 0x01, 0x23, 0xcd, 0xef, 0x89, 0xab,
 ];
 
-/// A startup that is not over, and what its last call said.
+/// A startup, and where it is over its last answer.
 #[derive(Clone)]
 pub struct State {
     pub config: [u8; CONFIG],
@@ -19,6 +20,25 @@ pub struct State {
     pub step: u8,
     pub unmet: u32,
     pub used: u32,
+    pub last: Option<Last>,
+}
+
+/// The last answer of a startup that is over: its number (0: running), the step that it names and the readings that it counts.
+#[derive(Clone, Copy)]
+pub struct Last {
+    pub number: u8,
+    pub step: u8,
+    pub used: u32,
+}
+
+impl Last {
+    fn over(&self) -> u8 {
+        if self.number == 0 {
+            1
+        } else {
+            2
+        }
+    }
 }
 
 /// Refusal number (0 none) and whether the startup is over: 0 no, 1 running, 2 failed.
@@ -26,32 +46,57 @@ pub type Said = (u8, u8);
 
 pub fn answer(q: &Query) -> Answer {
     let mut state = state_of(q);
-    if !allowed(q, &state) {
+    if !codes::allowed(q) {
         return handed_back(&state, codes::in_width(&q[24..]));
     }
+    // After the end, a call changes nothing and repeats the last answer.
+    if let Some(last) = state.last {
+        let used = if last.number == 23 { state.used } else { last.used };
+        return told(&state, (last.number, last.over()), last.step, used);
+    }
+    if !allowed(&state) {
+        return handed_back(&state, true);
+    }
     let step = state.step;
-    let (number, over) = work(&mut state, &q[66..68]);
+    let said = work(&mut state, &q[66..68]);
+    let mut a = told(&state, said, step, state.used);
+    if step == 19 {
+        a[44..60].copy_from_slice(&KEYS);
+        a[60] = 1;
+    }
+    a
+}
+
+/// The answer of a call that names this step and counts so many readings. 23 names no step.
+fn told(state: &State, (number, over): Said, step: u8, used: u32) -> Answer {
     let clocks = match over {
         1 => decoded(&state.fields, hse_of(&state.config)).unwrap_or([0; 6]),
         _ => [0; 6],
     };
-    let mut keys = [0; 17];
-    if step == 19 {
-        keys[..16].copy_from_slice(&KEYS);
-        keys[16] = 1;
-    }
     let named = if number == 23 { 0 } else { step };
-    let parts: [&[u8]; 6] = [
+    let parts: [&[u8]; 7] = [
         &[named, over],
-        &state.used.to_be_bytes(),
+        &used.to_be_bytes(),
         &1u32.to_be_bytes(),
         &image_of(&state.fields),
         &clock_bytes(clocks),
-        &keys,
+        &[0; 17],
+        &state.unmet.to_be_bytes()[1..],
     ];
     let mut a = accepted(CALL, &parts);
     a[1] = number;
     a
+}
+
+/// The waits owed, four and the ones in the enable bits, and the bound of the calls; 28 for a code without a name.
+pub fn owed(q: &Query) -> Answer {
+    if !codes::allowed(q) {
+        return refused(q[0], 28);
+    }
+    let c = &q[1..];
+    let waits = 4 + [c[0], c[14], c[12], c[8]].iter().filter(|part| **part != 0).count() as u32;
+    let number = if q[0] == OWED { waits } else { 1_000_000 * waits + 20 };
+    accepted(q[0], &[&number.to_be_bytes()])
 }
 
 fn state_of(q: &Query) -> State {
@@ -61,7 +106,11 @@ fn state_of(q: &Query) -> State {
         step: q[57],
         unmet: number(&q[58..]),
         used: number(&q[62..]),
+        last: None,
     };
+    if q[68] != 0 {
+        state.last = Some(Last { number: q[69], step: q[70], used: number(&q[71..]) });
+    }
     state.config.copy_from_slice(&q[1..24]);
     state.fields.copy_from_slice(&q[24..57]);
     state
@@ -71,10 +120,9 @@ fn hse_of(config: &[u8; CONFIG]) -> Option<u32> {
     hse(&[&config[..1], &config[2..6]].concat())
 }
 
-fn allowed(q: &Query, state: &State) -> bool {
+fn allowed(state: &State) -> bool {
     let waited = !WAITS.contains(&state.step) || state.unmet <= 999_999;
-    codes::allowed(q)
-        && checked(&state.config).is_ok()
+    checked(&state.config).is_ok()
         && (1..=28).contains(&state.step)
         && !skipped(&state.config, state.step)
         && waited
@@ -83,19 +131,14 @@ fn allowed(q: &Query, state: &State) -> bool {
 
 /// 28: the startup as it was handed over. Its fields are shown where an image can hold them.
 fn handed_back(state: &State, in_width: bool) -> Answer {
-    let image = if in_width { image_of(&state.fields) } else { [0; 8] };
-    let unmet = state.unmet.to_be_bytes();
-    let parts: [&[u8]; 7] = [
-        &[0, 0],
-        &state.used.to_be_bytes(),
-        &1u32.to_be_bytes(),
-        &image,
-        &[0; 40],
-        &[state.step],
-        &unmet[1..],
-    ];
-    let mut a = accepted(CALL, &parts);
-    a[1] = 28;
+    let over = state.last.map_or(0, |last| last.over());
+    let mut shown = state.clone();
+    if !in_width {
+        shown.fields = [0; FIELDS];
+    }
+    let mut a = told(&shown, (28, if in_width { over } else { 0 }), 0, state.used);
+    a[3] = over;
+    a[60] = state.step;
     a
 }
 

@@ -6,7 +6,7 @@ use crate::record::*;
 /// Whether every code of the query is within its field and, in a V4x7 configuration, has a name.
 pub fn allowed(q: &Query) -> bool {
     match q[0] {
-        CHECK => named(&q[1..]),
+        CHECK | OWED | BOUND => named(&q[1..]),
         DECODE | ADC | RNG => in_width(&q[1..]),
         STARTUP | CALL => named(&q[1..]) && in_width(&q[24..]),
         V1_CHECK | L1_CHECK => v1_config(&q[1..]),

@@ -7,11 +7,13 @@ pub mod codes;
 pub mod layout;
 
 use crate::record::*;
+use crate::rust::startup;
 
 /// The answer where the Rust has none to give: its types don't hold the query, or it has no such call.
 pub fn alone(q: &Query) -> Option<Answer> {
     match q[0] {
         CALL => Some(call::answer(q)),
+        OWED | BOUND => Some(call::owed(q)),
         READ_PROFILE => Some(codec::read_profile(q)),
         WRITE_PROFILE => Some(codec::write_profile(q)),
         READ_IMAGE => Some(codec::read_image(q)),
@@ -22,8 +24,12 @@ pub fn alone(q: &Query) -> Option<Answer> {
 }
 
 /// Listed differences: the Rust has an answer, and document 01 another.
-/// V30x decoder: 27 where the PLL is in use and runs from HSE with PREDIV1SRC set. The Rust doesn't look at PREDIV1SRC.
+/// V30x decoder: 27 where the PLL is in use and runs from HSE with PREDIV1SRC set. The Rust doesn't look at PREDIV1SRC (D1).
+/// Startup: step 28 decodes the fields, in which SWS is the last used reading's. The Rust reads CFGR0 once more (D8).
 pub fn listed(q: &Query) -> Option<Answer> {
+    if q[0] == STARTUP && startup::switched_away(q) {
+        return Some(startup::run(q, true));
+    }
     let (sws, pllsrc, prediv1src) = (q[1], q[2], q[4]);
     if q[0] == V30X_DECODE && sws == 2 && pllsrc != 0 && prediv1src != 0 {
         return Some(refused(V30X_DECODE, 27));

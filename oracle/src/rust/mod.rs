@@ -1,7 +1,7 @@
 //! The Rust's answers.
 
 mod h4;
-mod startup;
+pub mod startup;
 mod v1;
 mod v30x;
 mod v4x7;
@@ -14,7 +14,7 @@ pub fn answer(q: &Query) -> Answer {
         CHECK => v4x7::check(q),
         DECODE => v4x7::decode(q),
         ADC | RNG => v4x7::ask(q),
-        STARTUP => startup::run(q),
+        STARTUP => startup::run(q, false),
         V1_CHECK | V1_WRITTEN => v1::v1::start(q),
         V1_DECODE => v1::v1::decode(q),
         L1_CHECK | L1_WRITTEN => v1::l1::start(q),

@@ -39,19 +39,35 @@ fn segments(bytes: &[u8]) -> Vec<Segment> {
     segments
 }
 
-pub fn run(q: &Query) -> Answer {
+/// What `init` answers. Where the record is `held`, step 28 decodes the last used reading, as document 01 has it; else what the chip shows next.
+pub fn run(q: &Query, held: bool) -> Answer {
     let config = config(&q[1..]);
+    let limit = number(&q[57..]);
+    let script = segments(&q[61..]);
+    chip(|chip| *chip = Chip::scripted(fields(&q[24..]), script, limit, held));
     if let Err(thrown) = caught(SOURCE, || config.clocks()) {
         return super::refusal(STARTUP, thrown);
     }
-    let limit = number(&q[57..]);
-    let script = segments(&q[61..]);
-    chip(|chip| *chip = Chip::scripted(fields(&q[24..]), script, limit));
     let end = caught(SOURCE, || hal_v4x7::start(config));
     match end {
         Ok(()) => told(0, 1, hal_v4x7::rcc::clocks().numbers()),
         Err(Some(number)) => told(number, 2, [0; 6]),
         Err(None) => told(0, 0, [0; 6]),
+    }
+}
+
+/// Whether `init`, at step 28, sees another SWS than the last used reading's.
+pub fn switched_away(q: &Query) -> bool {
+    run(q, false);
+    chip(|chip| chip.away)
+}
+
+/// The unmet readings of the wait that is going on or failed: where the next call would have been the same step's, or the wait was its last.
+fn unmet(chip: &Chip, number: u8, over: u8) -> u32 {
+    if number == 21 || over == 0 && chip.next == chip.step {
+        chip.readings
+    } else {
+        0
     }
 }
 
@@ -79,6 +95,7 @@ fn told(number: u8, over: u8, clocks: [u32; 6]) -> Answer {
                 &image_of(&chip.fields),
                 &clock_bytes(clocks),
                 &keys,
+                &unmet(chip, number, over).to_be_bytes()[1..],
             ],
         );
         a[1] = number;

@@ -1,0 +1,95 @@
+/* The library with one mistake, the one whose number MISTAKE has: mistakes that a definition and its code can make together. Linked with tests/calls.c, which
+ * must see each, by `-Wl,--wrap` for every call below (examples/run). With MISTAKE 0 it makes none. */
+#include <stdlib.h>
+#include <string.h>
+#include "wontabeli.h"
+
+#define V1 WONTABELI_V1_FIELDS_SIZE
+
+uint8_t __real_wontabeli_start(const uint8_t *profile, size_t profile_len, const uint8_t *image, size_t image_len, uint8_t *place, size_t place_len);
+uint8_t __real_wontabeli_step(uint8_t *place, size_t place_len, uint16_t reading);
+uint8_t __real_wontabeli_v1_decode(uint8_t part, const uint8_t *fields, size_t fields_len, uint32_t hse, uint32_t *out, size_t out_len);
+uint8_t __real_wontabeli_v1_init_fields(uint8_t part, const uint8_t *config, size_t config_len, const uint8_t *earlier, size_t earlier_len, uint8_t *out, size_t out_len);
+uint8_t __real_wontabeli_v30x_check(const uint8_t *config, size_t config_len, uint32_t *out, size_t out_len);
+
+static int mistake(int number)
+{
+    const char *text = getenv("MISTAKE");
+    return text && atoi(text) == number;
+}
+
+uint8_t __wrap_wontabeli_start(const uint8_t *profile, size_t profile_len, const uint8_t *image, size_t image_len, uint8_t *place, size_t place_len)
+{
+    /* 1: the image before the profile */
+    if (mistake(1) && place_len >= WONTABELI_PLACE_SIZE && (image_len != 8 || image[7] % 32 != 0))
+        return WONTABELI_IMAGE_LENGTH_OR_FILLING;
+    return __real_wontabeli_start(profile, profile_len, image, image_len, place, place_len);
+}
+
+uint8_t __wrap_wontabeli_step(uint8_t *place, size_t place_len, uint16_t reading)
+{
+    uint8_t number, phase = place[WONTABELI_PLACE_PHASE];
+    /* 2: the phase before profile and image */
+    if (mistake(2) && place_len >= WONTABELI_PLACE_SIZE && phase == 7)
+        return WONTABELI_CODE_NOT_ALLOWED;
+    /* 3: SCKMOD's high bit dropped; 4: the ready bits of USBHS and ETH swapped */
+    if (mistake(3))
+        reading &= (uint16_t)~(WONTABELI_SCKMOD * 2);
+    if (mistake(4))
+        reading = (uint16_t)((reading & ~(WONTABELI_USBHS_PLLRDY | WONTABELI_ETH_PLLRDY)) | (reading & WONTABELI_USBHS_PLLRDY ? WONTABELI_ETH_PLLRDY : 0) |
+                             (reading & WONTABELI_ETH_PLLRDY ? WONTABELI_USBHS_PLLRDY : 0));
+    number = __real_wontabeli_step(place, place_len, reading);
+    /* 5: the unmet readings forgotten where a wait fails; 6: one of them where step 21 does */
+    if (mistake(5) && phase == 0 && place[WONTABELI_PLACE_PHASE] == WONTABELI_WAIT_FAILED)
+        memset(place + WONTABELI_PLACE_UNMET, 0, 4);
+    if (mistake(6) && phase == 0 && place[WONTABELI_PLACE_PHASE] == WONTABELI_FLASH_MODE_DIFFERS)
+        place[WONTABELI_PLACE_UNMET + 3] = 1;
+    return number;
+}
+
+uint8_t __wrap_wontabeli_v1_decode(uint8_t part, const uint8_t *fields, size_t fields_len, uint32_t hse, uint32_t *out, size_t out_len)
+{
+    uint8_t f[V1];
+    memcpy(f, fields, sizeof f);
+    /* 7: part 2 taken for L1; 8: an HSI byte of 2 taken for 1; 9: the HSI byte inverted, here and in what is written */
+    if (mistake(7) && part == 2)
+        part = WONTABELI_V1_PART_L1;
+    if (mistake(8) && f[7] == 2)
+        f[7] = 1;
+    if (mistake(9) && f[7] < 2)
+        f[7] = !f[7];
+    return __real_wontabeli_v1_decode(part, f, fields_len, hse, out, out_len);
+}
+
+uint8_t __wrap_wontabeli_v1_init_fields(uint8_t part, const uint8_t *config, size_t config_len, const uint8_t *earlier, size_t earlier_len, uint8_t *out, size_t out_len)
+{
+    uint8_t f[V1], number;
+    uint32_t clocks[WONTABELI_CHECK_WORDS];
+    memcpy(f, earlier, sizeof f);
+    if (mistake(9) && f[7] < 2)
+        f[7] = !f[7];
+    /* 10: part 2 taken for L1; 11: 28 of the earlier fields after the check's refusals; 12: PPRE2 of them not looked at */
+    if (mistake(10) && part == 2)
+        part = WONTABELI_V1_PART_L1;
+    number = wontabeli_v1_check(part, config, config_len, clocks, WONTABELI_CHECK_WORDS);
+    if (mistake(11) && out_len >= V1 && number != 0)
+        return number;
+    if (mistake(12) && f[6] > 7)
+        f[6] = 0;
+    number = __real_wontabeli_v1_init_fields(part, config, config_len, f, earlier_len, out, out_len);
+    if (mistake(9) && number == 0)
+        out[7] = !out[7];
+    return number;
+}
+
+uint8_t __wrap_wontabeli_v30x_check(const uint8_t *config, size_t config_len, uint32_t *out, size_t out_len)
+{
+    uint8_t c[WONTABELI_V30X_CONFIG_SIZE];
+    memcpy(c, config, sizeof c);
+    /* 13: the PLL's sources swapped; 14: the USBHS PLL's */
+    if (mistake(13) && c[7] < 2)
+        c[7] = !c[7];
+    if (mistake(14) && c[15] < 2)
+        c[15] = !c[15];
+    return __real_wontabeli_v30x_check(c, config_len, out, out_len);
+}
