@@ -45,10 +45,14 @@
 #define WONTABELI_PCLK2_TIM 5
 #define WONTABELI_MORE 6
 
-/* The numbers of crates/lent. */
+/* The numbers of crates/capi_give. */
 #define WONTABELI_CLOCKS_WORDS 6 /* The six clocks, in words. */
 #define WONTABELI_CHECK_WORDS 7 /* The six clocks and one more number, in words. */
 #define WONTABELI_PAIR_WORDS 2 /* Two numbers, in words. */
+
+/* The numbers of crates/capi. */
+#define WONTABELI_KEYR 0 /* The register of the first two keys, KEYR. */
+#define WONTABELI_MODEKEYR 1 /* The register of the other two, MODEKEYR. */
 
 /* The numbers of crates/capi_codec. */
 #define WONTABELI_PROFILE_SIZE 10 /* A profile, in bytes. */
@@ -79,10 +83,6 @@
 #define WONTABELI_ETH_PLLRDY 16 /* The ETH PLL is ready. */
 #define WONTABELI_SWS 32 /* SWS, two bits: its value times this. */
 #define WONTABELI_SCKMOD 128 /* SCKMOD, two bits: its value times this. */
-
-/* The numbers of crates/capi_owed. */
-#define WONTABELI_KEYR 0 /* The register of the first two keys, KEYR. */
-#define WONTABELI_MODEKEYR 1 /* The register of the other two, MODEKEYR. */
 
 /* The numbers of crates/capi_v1. */
 #define WONTABELI_V1_PART_V1 0 /* The part CH32V1. */

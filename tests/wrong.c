@@ -9,7 +9,8 @@
 uint8_t __real_wontabeli_start(const uint8_t *profile, size_t profile_len, const uint8_t *image, size_t image_len, uint8_t *place, size_t place_len);
 uint8_t __real_wontabeli_step(uint8_t *place, size_t place_len, uint16_t reading);
 uint8_t __real_wontabeli_v1_decode(uint8_t part, const uint8_t *fields, size_t fields_len, uint32_t hse, uint32_t *out, size_t out_len);
-uint8_t __real_wontabeli_v1_init_fields(uint8_t part, const uint8_t *config, size_t config_len, const uint8_t *earlier, size_t earlier_len, uint8_t *out, size_t out_len);
+uint8_t __real_wontabeli_v1_init_fields(uint8_t part, const uint8_t *config, size_t config_len, const uint8_t *earlier, size_t earlier_len,
+    uint8_t *out, size_t out_len);
 uint8_t __real_wontabeli_v30x_check(const uint8_t *config, size_t config_len, uint32_t *out, size_t out_len);
 
 static int mistake(int number)
@@ -61,7 +62,8 @@ uint8_t __wrap_wontabeli_v1_decode(uint8_t part, const uint8_t *fields, size_t f
     return __real_wontabeli_v1_decode(part, f, fields_len, hse, out, out_len);
 }
 
-uint8_t __wrap_wontabeli_v1_init_fields(uint8_t part, const uint8_t *config, size_t config_len, const uint8_t *earlier, size_t earlier_len, uint8_t *out, size_t out_len)
+uint8_t __wrap_wontabeli_v1_init_fields(uint8_t part, const uint8_t *config, size_t config_len, const uint8_t *earlier, size_t earlier_len,
+    uint8_t *out, size_t out_len)
 {
     uint8_t f[V1], number;
     uint32_t clocks[WONTABELI_CHECK_WORDS];

@@ -72,8 +72,8 @@ fn made(seed: u64) -> Lists {
 fn files(lists: &Lists, crates: &str) -> Vec<(String, Vec<u8>)> {
     let (powerup_in, powerup_out) = powerup::lists();
     vec![
-        (format!("{}/answers/stdin", crates), lists.stdin.clone()),
-        (format!("{}/answers/stdout", crates), lists.stdout.clone()),
+        (format!("{}/replay/stdin", crates), lists.stdin.clone()),
+        (format!("{}/replay/stdout", crates), lists.stdout.clone()),
         (format!("{}/powerup/stdin", crates), powerup_in),
         (format!("{}/powerup/stdout", crates), powerup_out),
     ]

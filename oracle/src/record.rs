@@ -29,6 +29,9 @@ pub const READ_IMAGE: u8 = 0x09;
 pub const WRITE_IMAGE: u8 = 0x0a;
 pub const OWED: u8 = 0x0b;
 pub const BOUND: u8 = 0x0c;
+pub const MAIN_PLL: u8 = 0x0d;
+pub const SYSPLL: u8 = 0x0e;
+pub const ADC_RATIO: u8 = 0x0f;
 pub const V1_CHECK: u8 = 0x10;
 pub const V1_WRITTEN: u8 = 0x11;
 pub const V1_DECODE: u8 = 0x12;
@@ -38,13 +41,14 @@ pub const L1_DECODE: u8 = 0x1a;
 pub const V30X_CHECK: u8 = 0x20;
 pub const V30X_WRITTEN: u8 = 0x21;
 pub const V30X_DECODE: u8 = 0x22;
+pub const PLL_OUTPUT: u8 = 0x28;
 pub const H4_AHB: u8 = 0x30;
 pub const H4_HCLK: u8 = 0x31;
 pub const H4_PCLK: u8 = 0x32;
 pub const H4_MUL: u8 = 0x33;
 
 /// Each kind, its name, and the refusals that document 01 gives it.
-pub const KINDS: [(u8, &str, &[u8]); 25] = [
+pub const KINDS: [(u8, &str, &[u8]); 29] = [
     (
         CHECK,
         "V4x7 check",
@@ -65,6 +69,9 @@ pub const KINDS: [(u8, &str, &[u8]); 25] = [
     (WRITE_IMAGE, "image writer", &[28, 32]),
     (OWED, "V4x7 waits owed", &[28]),
     (BOUND, "V4x7 call bound", &[28]),
+    (MAIN_PLL, "V4x7 main PLL", &[3, 4, 5, 28]),
+    (SYSPLL, "V4x7 SYSPLL input", &[9, 19, 28]),
+    (ADC_RATIO, "V4x7 ADC by USBHS", &[14, 28]),
     (V1_CHECK, "V1 check", &[3, 20, 24, 26, 28]),
     (V1_WRITTEN, "V1 fields", &[3, 20, 24, 26, 28]),
     (V1_DECODE, "V1 decoder", &[3, 24, 28]),
@@ -74,6 +81,7 @@ pub const KINDS: [(u8, &str, &[u8]); 25] = [
     (V30X_CHECK, "V30x check", &[3, 8, 20, 24, 25, 26, 27, 28]),
     (V30X_WRITTEN, "V30x fields", &[3, 8, 20, 24, 25, 26, 27, 28]),
     (V30X_DECODE, "V30x decoder", &[3, 24, 27, 28]),
+    (PLL_OUTPUT, "V1, L1, V30x PLL", &[3, 24, 28]),
     (H4_AHB, "H4 AHB", &[28]),
     (H4_HCLK, "H4 HCLK", &[]),
     (H4_PCLK, "H4 PCLK", &[28]),

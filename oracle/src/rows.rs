@@ -117,7 +117,13 @@ fn named_run() -> bool {
         for (at, (name, clocks)) in list.iter().enumerate() {
             let a = answer(&named_check(kind, at), Excluding { listed: true }).0;
             if a[1] != 0 || a[2..26] != clock_bytes(*clocks) || clocks[0] != in_name(kind, name) {
-                println!("{} {} differs: the Rust's clocks are {:?}, asked by codes {}", name_of(kind), name, clocks, hex(&a));
+                println!(
+                    "{} {} differs: the Rust's clocks are {:?}, asked by codes {}",
+                    name_of(kind),
+                    name,
+                    clocks,
+                    hex(&a)
+                );
                 right = false;
             }
         }

@@ -10,13 +10,19 @@ pub const PCLK1_TIM: usize = 4;
 pub const PCLK2_TIM: usize = 5;
 pub const MORE: usize = 6;
 
-// The numbers of crates/lent.
+// The numbers of crates/capi_give.
 /// The six clocks, in words.
 pub const CLOCKS_WORDS: usize = 6;
 /// The six clocks and one more number, in words.
 pub const CHECK_WORDS: usize = 7;
 /// Two numbers, in words.
 pub const PAIR_WORDS: usize = 2;
+
+// The numbers of crates/capi.
+/// The register of the first two keys, KEYR.
+pub const KEYR: u32 = 0;
+/// The register of the other two, MODEKEYR.
+pub const MODEKEYR: u32 = 1;
 
 // The numbers of crates/capi_codec.
 /// A profile, in bytes.
@@ -73,12 +79,6 @@ pub const ETH_PLLRDY: u16 = 16;
 pub const SWS: u16 = 32;
 /// SCKMOD, two bits: its value times this.
 pub const SCKMOD: u16 = 128;
-
-// The numbers of crates/capi_owed.
-/// The register of the first two keys, KEYR.
-pub const KEYR: u32 = 0;
-/// The register of the other two, MODEKEYR.
-pub const MODEKEYR: u32 = 1;
 
 // The numbers of crates/capi_v1.
 /// The part CH32V1.

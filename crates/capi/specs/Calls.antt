@@ -6,8 +6,8 @@ use mathlib.Core.List.{List}
 use lib.Dec.{eqb}
 use Rattle.answer.specs.Answer.{Answer, gives, _>>=_}
 use Rattle.tree.specs.declared.Clocks.{Clocks}
-use Rattle.v4x7_rules.specs.declared.HseFrequency.{HseFrequency}
-use Rattle.v4x7_rules.specs.declared.HseFrequency.the-variants as hse
+use Rattle.tree.specs.declared.HseFrequency.{HseFrequency}
+use Rattle.tree.specs.declared.HseFrequency.the-variants as hse
 use Rattle.v4x7.specs.Check.{checkOf}
 use Rattle.profile.specs.Profile.{readProfile}
 use Rattle.image.specs.Image.{readImage}

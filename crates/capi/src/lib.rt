@@ -1,22 +1,32 @@
-// The clocks of CH32V4x7 for C and Rust: the check of a profile, the decoder and the two queries. Records come as bytes, frequencies go as words.
+// The clocks of CH32V4x7 for C and Rust: the check of a profile, the decoder, the two queries, and what the host of a startup owes and may count on.
+// Records come as bytes, frequencies go as words.
 // Every call answers by number: 0, or document 01's refusal, and then nothing that was lent is touched.
 ghost use mathlib.Core.Path.{_≡_};
-ghost use Rattle.lent.specs.Given.{Given, sixWords, sevenWords, sevenfold, twoWords, twofold};
-ghost use Rattle.tree.specs.Tree.{running};
-ghost use Rattle.decoder.specs.Queries.{queried};
+ghost use Rattle.answer.specs.Said.{replySays};
+ghost use Rattle.capi_give.specs.Given.{Given, GivenOne, sixWords, sevenWords, sevenfoldSays, twoWords, twofoldSays};
+ghost use Rattle.tree.specs.Tree.{busesSays};
+ghost use Rattle.decoder.specs.Queries.{querySays};
 ghost use Rattle.capi.specs.Calls.{checkRead, hseOf, decodeRead, pairOf, adcRead, rngRead};
+ghost use Rattle.capi.specs.Owed.{keyRead, waitsRead, callsRead};
+use answer::Reply;
+use capi_give::Sevenfold;
+use capi_give::Twofold;
 use decoder::Query;
 use image::ReadImage;
-use lent::Sevenfold;
-use lent::Twofold;
 use profile::ReadProfile;
+use startup::FlashKey;
 use tree::Buses;
+use tree::HseFrequency;
 use v4x7::Checked;
 use v4x7::refused;
-use v4x7_rules::HseFrequency;
+
+// The register of the first two keys, KEYR.
+pub const KEYR: u32 = 0;
+// The register of the other two, MODEKEYR.
+pub const MODEKEYR: u32 = 1;
 
 fn check(from: &[u8]) -> Sevenfold
-    ensures { λ r. ⌜ sevenfold r ≡ checkRead (now (from .entry)) ⌝ }
+    ensures { λ r. ⌜ sevenfoldSays r ≡ checkRead (now (from .entry)) ⌝ }
 {
     match profile::read_profile(from) {
         ReadProfile::Refused(n) => Sevenfold::Refused(n),
@@ -36,7 +46,7 @@ fn check(from: &[u8]) -> Sevenfold
 pub extern "C" fn wontabeli_check(from: &[u8], out: &mut [u32]) -> u8
     ensures { λ r. ⌜ Given 7 (sevenWords (checkRead (now (from .entry)))) (now (out .entry)) (now (out .exit)) r ⌝ }
 {
-    lent::give_seven(check(from), out)
+    capi_give::give_seven(check(from), out)
 }
 
 fn hse(hz: u32) -> HseFrequency
@@ -50,7 +60,7 @@ fn hse(hz: u32) -> HseFrequency
 }
 
 fn decode(from: &[u8], hz: u32) -> Buses
-    ensures { λ r. ⌜ running r ≡ decodeRead (now (from .entry)) hz ⌝ }
+    ensures { λ r. ⌜ busesSays r ≡ decodeRead (now (from .entry)) hz ⌝ }
 {
     match image::read_image(from) {
         ReadImage::Refused(n) => Buses::Refused(n),
@@ -64,12 +74,12 @@ fn decode(from: &[u8], hz: u32) -> Buses
 pub extern "C" fn wontabeli_decode(from: &[u8], hz: u32, out: &mut [u32]) -> u8
     ensures { λ r. ⌜ Given 6 (sixWords (decodeRead (now (from .entry)) hz)) (now (out .entry)) (now (out .exit)) r ⌝ }
 {
-    lent::give_six(decode(from, hz), out)
+    capi_give::give_six(decode(from, hz), out)
 }
 
 // A query's answer as two words.
 fn pair(query: Query) -> Twofold
-    ensures { λ r. ⌜ twofold r ≡ pairOf (queried query) ⌝ }
+    ensures { λ r. ⌜ twofoldSays r ≡ pairOf (querySays query) ⌝ }
 {
     match query {
         Query::Refused(n) => Twofold::Refused(n),
@@ -85,7 +95,7 @@ fn pair(query: Query) -> Twofold
 }
 
 fn adc(from: &[u8], sysclk: u32) -> Query
-    ensures { λ r. ⌜ queried r ≡ adcRead (now (from .entry)) sysclk ⌝ }
+    ensures { λ r. ⌜ querySays r ≡ adcRead (now (from .entry)) sysclk ⌝ }
 {
     match image::read_image(from) {
         ReadImage::Refused(n) => Query::Refused(n),
@@ -99,11 +109,11 @@ fn adc(from: &[u8], sysclk: u32) -> Query
 pub extern "C" fn wontabeli_adc(from: &[u8], sysclk: u32, out: &mut [u32]) -> u8
     ensures { λ r. ⌜ Given 2 (twoWords (pairOf (adcRead (now (from .entry)) sysclk))) (now (out .entry)) (now (out .exit)) r ⌝ }
 {
-    lent::give_two(pair(adc(from, sysclk)), out)
+    capi_give::give_two(pair(adc(from, sysclk)), out)
 }
 
 fn rng(from: &[u8], sysclk: u32) -> Query
-    ensures { λ r. ⌜ queried r ≡ rngRead (now (from .entry)) sysclk ⌝ }
+    ensures { λ r. ⌜ querySays r ≡ rngRead (now (from .entry)) sysclk ⌝ }
 {
     match image::read_image(from) {
         ReadImage::Refused(n) => Query::Refused(n),
@@ -116,5 +126,64 @@ fn rng(from: &[u8], sysclk: u32) -> Query
 pub extern "C" fn wontabeli_rng(from: &[u8], sysclk: u32, out: &mut [u32]) -> u8
     ensures { λ r. ⌜ Given 2 (twoWords (pairOf (rngRead (now (from .entry)) sysclk))) (now (out .entry)) (now (out .exit)) r ⌝ }
 {
-    lent::give_two(pair(rng(from, sysclk)), out)
+    capi_give::give_two(pair(rng(from, sysclk)), out)
+}
+
+fn key(position: u8) -> Twofold
+    ensures { λ r. ⌜ twofoldSays r ≡ keyRead position ⌝ }
+{
+    match startup::flash_key(position) {
+        FlashKey::Keyr(key) => Twofold::Are {
+            first: KEYR,
+            second: key,
+        },
+        FlashKey::ModeKeyr(key) => Twofold::Are {
+            first: MODEKEYR,
+            second: key,
+        },
+        FlashKey::NoKey => Twofold::Refused(answer::CODE_NOT_ALLOWED),
+    }
+}
+
+// A key that the host writes at step 19, in their order at positions 0 to 3. Gives two words: its register, 0 KEYR or 1 MODEKEYR, and the key.
+// Refused by 32, then by 28: a position above 3.
+#[no_mangle]
+pub extern "C" fn wontabeli_flash_key(position: u8, out: &mut [u32]) -> u8
+    ensures { λ r. ⌜ Given 2 (twoWords (keyRead position)) (now (out .entry)) (now (out .exit)) r ⌝ }
+{
+    capi_give::give_two(key(position), out)
+}
+
+fn waits(p: &[u8]) -> Reply
+    ensures { λ r. ⌜ replySays r ≡ waitsRead (now (p .entry)) ⌝ }
+{
+    match profile::read_profile(p) {
+        ReadProfile::Refused(number) => Reply::Refused(number),
+        ReadProfile::Profile(config) => startup::waits_owed(config),
+    }
+}
+
+// How many waits the startup of a profile has. Refused by 29, 30.
+#[no_mangle]
+pub extern "C" fn wontabeli_waits_owed(p: &[u8], out: &mut u32) -> u8
+    ensures { λ r. ⌜ GivenOne (waitsRead (now (p .entry))) (now (out .entry)) (now (out .exit)) r ⌝ }
+{
+    capi_give::give_one(waits(p), out)
+}
+
+fn calls(p: &[u8]) -> Reply
+    ensures { λ r. ⌜ replySays r ≡ callsRead (now (p .entry)) ⌝ }
+{
+    match profile::read_profile(p) {
+        ReadProfile::Refused(n) => Reply::Refused(n),
+        ReadProfile::Profile(config) => startup::call_bound(config),
+    }
+}
+
+// The startup of a profile is over within so many calls. Refused by 29, 30.
+#[no_mangle]
+pub extern "C" fn wontabeli_call_bound(p: &[u8], out: &mut u32) -> u8
+    ensures { λ r. ⌜ GivenOne (callsRead (now (p .entry))) (now (out .entry)) (now (out .exit)) r ⌝ }
+{
+    capi_give::give_one(calls(p), out)
 }

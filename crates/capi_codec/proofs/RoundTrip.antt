@@ -1,24 +1,25 @@
 -- Taking a record apart and making it again lose nothing, whatever reads it: once over the layout, then of profile and image. Assumes nothing.
-use Prim.Native.Nat.{ℕ, _*_, _^_}
+use Prim.Native.Nat.{ℕ, _*_}
 use mathlib.Core.Path.{_≡_, refl, sym, ap, _∙_}
 use mathlib.Core.Bool.{true, not}
-use mathlib.Core.List.{List, [], _∷_}
+use mathlib.Core.List.{List, []}
 use borrow.Author.Tests.{not-false, eqb-true}
 use native.Mathlib.Omega.{arith}
-use lib.Dec.{leb, ltb, eqb}
+use lib.Dec.{eqb}
 use lib.ListN.{length}
 use Rattle.answer.specs.Answer.{Answer, gives, refuses, refuse, _>>_, followed, passed}
-use Rattle.layout.specs.Layout.{total, storable, fitting, packed, unpack, num, Bytes}
+use Rattle.layout.specs.Layout.{total, fitting, packed, unpack, num, Bytes}
 use Rattle.layout.specs.Bits.{cut}
 use Rattle.layout.specs.Codec.{Inverse}
-use Rattle.layout.proofs.Laws.{and-left, and-right, and-both, fitting-unpack, storable-fitting}
+use Rattle.layout.proofs.Laws.{fitting-unpack}
 use Rattle.layout.proofs.Reading.{cut-unpack, cut-packed, length-packed, packed-unpack}
 use Rattle.profile.specs.Profile.{readProfile}
-use Rattle.profile.specs.Narrow.{narrowWidths}
-use Rattle.image.specs.Image.{readImage, widths}
+use Rattle.profile.specs.Profile as profile
+use Rattle.image.specs.Image.{readImage}
+use Rattle.image.specs.Image as image
 use Rattle.v4x7.specs.declared.Config.{Config}
 use Rattle.image.specs.declared.Fields.{Fields}
-use Rattle.capi_codec.specs.Codec.{narrow, refusedBy, fieldsBy, recordBy, profileFields, profileFrom, imageFields, imageFrom}
+use Rattle.capi_codec.specs.Codec.{refusedBy, fieldsBy, recordBy, profileFields, profileFrom, imageFields, imageFrom}
 
 listIn : Answer (List ℕ) → List ℕ
 listIn (gives l) = l
@@ -28,34 +29,26 @@ same-list : {l m : List ℕ} → gives l ≡ gives m → l ≡ m
 unfolding listIn
 same-list e = ap listIn e
 
-fitting-storable : (ws xs : List ℕ) → narrow ws ≡ true → fitting ws xs ≡ true → storable ws xs ≡ true
-fitting-storable [] [] n f = refl
-fitting-storable [] (x ∷ xs) n f = f
-fitting-storable (w ∷ ws) [] n f = f
-fitting-storable (w ∷ ws) (x ∷ xs) n f =
-    and-both (and-both (and-left (leb w 8) (narrow ws) n) (and-left (ltb x (2 ^ w)) (fitting ws xs) f))
-    (fitting-storable ws xs (and-right (leb w 8) (narrow ws) n) (and-right (ltb x (2 ^ w)) (fitting ws xs) f))
-
 -- what is not refused with another number is not refused
 unrefused : {A : Type 0} (k : ℕ) (m : Answer A) {a : A} → refusedBy k m ≡ gives a → m ≡ gives a
 unrefused k (gives b) e = e
 unrefused k (refuses n) e = absurd (let z : _≡_ {A = ℕ} 0 1 = cc in omega arith)
 
-module _ {A : Type 0} (reader : List ℕ → Answer A) (k n : ℕ) (ws : List ℕ) (whole : total ws ≡ 8 * n) (narrow-ws : narrow ws ≡ true)
+module _ {A : Type 0} (reader : List ℕ → Answer A) (k n : ℕ) (ws : List ℕ) (whole : total ws ≡ 8 * n)
     (sized : (s : List ℕ) (a : A) → reader s ≡ gives a → length s ≡ n) where
   record Made (xs p : List ℕ) : Type 0 where
-    fits : storable ws xs ≡ true
+    fits : fitting ws xs ≡ true
     bytes : p ≡ packed n ws xs
     value : A
     accepted : reader p ≡ gives value
 
   made : (xs p : List ℕ) → recordBy reader k n ws xs ≡ gives p → Made xs p
   made xs p e =
-      let a = passed k (not (storable ws xs)) (_>>_ (refusedBy k (reader (packed n ws xs))) (gives (packed n ws xs))) e in
+      let a = passed k (not (fitting ws xs)) (_>>_ (refusedBy k (reader (packed n ws xs))) (gives (packed n ws xs))) e in
       let b = followed (refusedBy k (reader (packed n ws xs))) (gives (packed n ws xs)) (a .after) in
       let q : packed n ws xs ≡ p = same-list (b .after) in
       record {
-        fits = not-false (storable ws xs) (a .failed);
+        fits = not-false (fitting ws xs) (a .failed);
         bytes = sym q;
         value = b .value;
         accepted = ap reader (sym q) ∙ unrefused k (reader (packed n ws xs)) (b .gave);
@@ -64,14 +57,14 @@ module _ {A : Type 0} (reader : List ℕ → Answer A) (k n : ℕ) (ws : List �
   taken-apart : (xs p : List ℕ) → recordBy reader k n ws xs ≡ gives p → fieldsBy reader ws p ≡ gives xs
   taken-apart xs p e =
       let m = made xs p e in
-      rw (m .accepted) (ap gives (ap (λ (s : List ℕ). cut ws s 0) (m .bytes) ∙ cut-packed ws n whole xs (storable-fitting ws xs (m .fits))))
+      rw (m .accepted) (ap gives (ap (λ (s : List ℕ). cut ws s 0) (m .bytes) ∙ cut-packed ws n whole xs (m .fits)))
 
   made-again : (s xs : List ℕ) → Bytes s → fieldsBy reader ws s ≡ gives xs → recordBy reader k n ws xs ≡ gives s
   made-again s xs b e =
       let r = followed (reader s) (gives (cut ws s 0)) e in
       let l = sized s (r .value) (r .gave) in
       let u : unpack ws (num s) ≡ xs = sym (cut-unpack ws n whole s b l) ∙ same-list (r .after) in
-      let f : storable ws xs ≡ true = ap (storable ws) (sym u) ∙ fitting-storable ws (unpack ws (num s)) narrow-ws (fitting-unpack ws (num s)) in
+      let f : fitting ws xs ≡ true = ap (fitting ws) (sym u) ∙ fitting-unpack ws (num s) in
       let p : packed n ws xs ≡ s = ap (packed n ws) (sym u) ∙ packed-unpack ws n whole s b l in
       rw (f, p, r .gave) refl
 
@@ -96,8 +89,8 @@ eight s f e = of-length 31 8 s _ e
 
 pub profile-inverse : Inverse 10 profileFields profileFrom
 unfolding profileFields profileFrom
-profile-inverse = inverse readProfile 30 10 narrowWidths refl refl ten
+profile-inverse = inverse readProfile 30 10 profile.widths refl ten
 
 pub image-inverse : Inverse 8 imageFields imageFrom
 unfolding imageFields imageFrom
-image-inverse = inverse readImage 28 8 widths refl refl eight
+image-inverse = inverse readImage 28 8 image.widths refl eight

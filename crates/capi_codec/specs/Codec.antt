@@ -1,20 +1,13 @@
 -- Records taken apart and made by a host, the fields one a byte in the layout's order, the filling last.
 -- Assumes nothing.
 use Prim.Native.Nat.{ℕ}
-use mathlib.Core.Bool.{Bool, true, not, _&&_}
-use mathlib.Core.List.{List, [], _∷_}
-use lib.Dec.{leb}
+use mathlib.Core.Bool.{not}
+use mathlib.Core.List.{List}
 use Rattle.answer.specs.Answer.{Answer, gives, refuses, refuse, _>>_}
-use Rattle.layout.specs.Layout.{storable, packed}
+use Rattle.layout.specs.Layout.{fitting, packed}
 use Rattle.layout.specs.Bits.{cut}
-use Rattle.profile.specs.Profile.{readProfile}
-use Rattle.profile.specs.Narrow.{narrowWidths}
+use Rattle.profile.specs.Profile as profile
 use Rattle.image.specs.Image as image
-
--- no width above eight
-abbrev pub narrow : List ℕ → Bool
-narrow [] = true
-narrow (w ∷ ws) = leb w 8 && narrow ws
 
 -- the fields of a record that its reader accepts
 abbrev pub fieldsBy : {A : Type 0} → (List ℕ → Answer A) → List ℕ → List ℕ → Answer (List ℕ)
@@ -30,16 +23,16 @@ refusedBy k (refuses n) = refuses k
 -- the record of n bytes that fields make, refused by k: they don't fit the layout, or its reader refuses it
 abbrev pub recordBy : {A : Type 0} → (List ℕ → Answer A) → ℕ → ℕ → List ℕ → List ℕ → Answer (List ℕ)
 recordBy reader k n ws xs = do
-  refuse k (not (storable ws xs))
+  refuse k (not (fitting ws xs))
   refusedBy k (reader (packed n ws xs))
   gives (packed n ws xs)
 
 -- a profile, its frequency as four bytes; "a writer given what its reader would refuse, or a code too wide, gives 30"
 unfoldable pub profileFields : List ℕ → Answer (List ℕ)
-profileFields = fieldsBy readProfile narrowWidths
+profileFields = fieldsBy profile.readProfile profile.widths
 
 unfoldable pub profileFrom : List ℕ → Answer (List ℕ)
-profileFrom = recordBy readProfile 30 10 narrowWidths
+profileFrom = recordBy profile.readProfile 30 10 profile.widths
 
 -- an image; 28 likewise
 unfoldable pub imageFields : List ℕ → Answer (List ℕ)

@@ -1,13 +1,7 @@
 // Profiles and images for C and Rust, their fields one a byte: a host takes a record apart, or makes one. The fields stand in document 01's order,
 // the filling last; HSE's frequency is four bytes, the most significant first.
-ghost use mathlib.Core.Path.{_≡_};
-ghost use mathlib.Core.Bool.{true};
-ghost use mathlib.Core.List.{_++_};
-ghost use Prim.Native.Nat.{_≤_};
-ghost use lib.ListN.{length, drop};
-ghost use Rattle.layout.specs.Bits.{cut};
-ghost use Rattle.lent.specs.Given.{Given};
-ghost use Rattle.capi_codec.specs.Codec.{narrow, profileFields, profileFrom, imageFields, imageFrom};
+ghost use Rattle.capi_give.specs.Given.{Given};
+ghost use Rattle.capi_codec.specs.Codec.{profileFields, profileFrom, imageFields, imageFrom};
 use image::ReadImage;
 use profile::ReadProfile;
 
@@ -20,22 +14,6 @@ pub const IMAGE_SIZE: usize = 8;
 // The fields of an image, in bytes, one a field; the filling is the last.
 pub const IMAGE_FIELDS: usize = 34;
 
-// Cuts the fields of a layout out of the bytes, into the first of the lent ones.
-fn cut_into(ws: &[u8], s: &[u8], out: &mut [u8])
-    requires { ⌜ (length (now ws) ≤ length (now out)) × ((length (now ws) ≤ 64) × (narrow (now ws) ≡ true)) ⌝ }
-    ensures { λ _. ⌜ now (out .exit) ≡ cut (now (ws .entry)) (now (s .entry)) 0 ++ drop (length (now (ws .entry))) (now (out .entry)) ⌝ }
-{
-    let mut at = 0;
-    let mut i = 0;
-    while i < ws.len() {
-        let w = ws[i] as usize;
-        let x = layout::code(s, at, w);
-        out[i] = x;
-        at += w;
-        i += 1;
-    }
-}
-
 // The fields of a profile. Refused by 32, 29, 30.
 #[no_mangle]
 pub extern "C" fn wontabeli_read_profile(from: &[u8], out: &mut [u8]) -> u8
@@ -47,7 +25,7 @@ pub extern "C" fn wontabeli_read_profile(from: &[u8], out: &mut [u8]) -> u8
     match profile::read_profile(from) {
         ReadProfile::Refused(n) => n,
         ReadProfile::Profile(_) => {
-            cut_into(&profile::WIDTHS, from, out);
+            layout::load(&profile::WIDTHS, from, out);
             0
         }
     }
@@ -67,7 +45,7 @@ pub extern "C" fn wontabeli_write_profile(fields: &[u8], out: &mut [u8]) -> u8
     }
     match profile::read_profile(&p) {
         ReadProfile::Refused(_) => answer::PROFILE_CODE,
-        ReadProfile::Profile(_) => lent::give_bytes(&p, out),
+        ReadProfile::Profile(_) => capi_give::give_bytes(&p, out),
     }
 }
 
@@ -82,7 +60,7 @@ pub extern "C" fn wontabeli_read_image(from: &[u8], out: &mut [u8]) -> u8
     match image::read_image(from) {
         ReadImage::Refused(n) => n,
         ReadImage::Image(_) => {
-            cut_into(&image::WIDTHS, from, out);
+            layout::load(&image::WIDTHS, from, out);
             0
         }
     }
@@ -102,6 +80,6 @@ pub extern "C" fn wontabeli_write_image(fields: &[u8], out: &mut [u8]) -> u8
     }
     match image::read_image(&i) {
         ReadImage::Refused(_) => answer::CODE_NOT_ALLOWED,
-        ReadImage::Image(_) => lent::give_bytes(&i, out),
+        ReadImage::Image(_) => capi_give::give_bytes(&i, out),
     }
 }

@@ -1,24 +1,25 @@
 -- A startup that the machine works, for any list of steps that ends with a comparison and any limit, is never handed back (28). Assumes nothing.
-use Prim.Native.Nat.{ℕ, _+_, _≤_, _<_}
-use mathlib.Core.Path.{_≡_, refl, sym, ap, _∙_, subst}
-use mathlib.Core.Bool.{Bool, true, false, cond}
+use Prim.Native.Nat.{ℕ, suc, _+_, _≤_, _<_}
+use mathlib.Core.Path.{_≡_, refl, sym, subst}
+use mathlib.Core.Bool.{Bool, true, false}
 use mathlib.Core.List.{List, [], _∷_}
-use native.Mathlib.Numerals.{add-one}
 use native.Mathlib.Omega.{arith}
-use borrow.Author.Tests.{le-ltb, lt-leb, ltb-true}
-use lib.Dec.{eqb, ltb, leb}
+use borrow.Author.Tests.{ltb-true}
+use lib.Dec.{eqb, ltb}
+use lib.ListN.{drop}
 use Rattle.image.specs.declared.Fields.{Fields}
-use Rattle.steps.specs.Writes.{withSeen}
-use Rattle.steps.specs.Steps.{Op, write, wait, flash, compare, Entry, entry, from}
+use Rattle.image.specs.declared.Seen.{Seen}
+use Rattle.startup.specs.declared.steps.Work.the-variants.{Wrote, Waits, Reads, Compares}
+use Rattle.startup.specs.Steps.{Op, write, wait, flash, compare, Entry, entry, present, stepAfter, doneOf}
 use Rattle.startup.specs.declared.Reading.{Reading}
-use Rattle.startup.specs.declared.Report.the-variants.{Waiting, Running, Failed, Refused}
 use Rattle.startup.specs.declared.Phase.{Phase}
 use Rattle.startup.specs.declared.Phase.the-variants.{Going, Over}
 use Rattle.startup.specs.declared.Startup.{Startup}
 use Rattle.startup.specs.declared.Stepped.{Stepped}
-use Rattle.startup.specs.Call.{numberOf, seenOf, modeRead, going, ended, handedBack, skipped, moved, unmetOf, workedOf, callIn}
+use Rattle.startup.specs.Call.{numberOf, seenOf, Event, compared, cameTo, seeing}
+use Rattle.startup.specs.View.{View, off, spent, writes, meets, waits, misses, shows, differs, ends, view}
 use Rattle.demands.specs.Runs.{mostReadings}
-use Rattle.demands.proofs.Machine.{machine, inPhase, skipOff, next-from}
+use Rattle.demands.proofs.Machine.{machine, inPhase, behind, at-step}
 
 -- The list ends with a comparison, which is present.
 abbrev Closed : List Entry → Type 0
@@ -35,11 +36,13 @@ Slack L (wait p) m = m < L
 Slack L (flash n) m = m ≡ 0
 Slack L (compare t) m = m ≡ 0
 
--- At step k, with m unmet readings and u used: the readings that are left don't pass 8,000,001.
+-- At a step, with m unmet readings and u used: the readings that are left don't pass 8,000,001.
 pub record At (P : List Entry) (L k m u : ℕ) : Type 0 where
+  pub before : ℕ
   pub op : Op
   pub rest : List Entry
-  pub here : from k P ≡ entry true op ∷ rest
+  pub here : drop before P ≡ entry true op ∷ rest
+  pub step : k ≡ suc before
   pub closed : Closed (entry true op ∷ rest)
   pub slack : Slack L op m
   pub room : u + mostReadings L (entry true op ∷ rest) ≤ 8000001 + m
@@ -68,61 +71,61 @@ used-le L (flash n) l m u h k = omega arith
 used-le L (compare t) l m u h k = omega arith
 
 module _ (P : List Entry) (L : ℕ) (some : 0 < L) where
-  -- the next step that is present
-  next-at : (l : List Entry) (n u : ℕ) → Closed l → from n P ≡ skipOff l → u + mostReadings L l ≤ 8000001 → At P L n 0 u
-  next-at [] n u c e h = absurd c
-  next-at (entry true o ∷ l) n u c e h = record { op = o; rest = l; here = e; closed = c; slack = no-slack L o some; room = h }
-  next-at (entry false (write w) ∷ l) n u c e h = next-at l n u c e (omega arith)
-  next-at (entry false (wait p) ∷ l) n u c e h = next-at l n u c e (omega arith)
-  next-at (entry false (flash m) ∷ l) n u c e h = next-at l n u c e (omega arith)
-  next-at (entry false (compare t) ∷ l) n u c e h = let z : false ≡ true = c in let y : _≡_ {A = ℕ} 0 1 = cc in absurd (omega arith)
+  -- the next step that is present, from the list behind step j on
+  next-at : (l : List Entry) (j u : ℕ) → Closed l → drop j P ≡ l → u + mostReadings L l ≤ 8000001 → At P L (stepAfter j (present l)) 0 u
+  next-at [] j u c e h = absurd c
+  next-at (entry true o ∷ l) j u c e h =
+      record { before = j; op = o; rest = l; here = e; step = refl; closed = c; slack = no-slack L o some; room = h }
+  next-at (entry false (write w) ∷ l) j u c e h = next-at l (suc j) u c (behind j P (entry false (write w)) l e) (omega arith)
+  next-at (entry false (wait p) ∷ l) j u c e h = next-at l (suc j) u c (behind j P (entry false (wait p)) l e) (omega arith)
+  next-at (entry false (flash m) ∷ l) j u c e h = next-at l (suc j) u c (behind j P (entry false (flash m)) l e) (omega arith)
+  next-at (entry false (compare t) ∷ l) j u c e h = let z : false ≡ true = c in let y : _≡_ {A = ℕ} 0 1 = cc in absurd (omega arith)
+
+  compared-good : (next : ℕ) (s : Startup) (f : Fields) (same : Bool) → Good P L (cameTo next s f (compared same))
+  compared-good next s f true = (refl, refl)
+  compared-good next s f false = (refl, refl)
 
   module _ (s : Startup) (r : Reading) where
-    by-cond : (b : Bool) (x y : Stepped) → (b ≡ true → Good P L x) → (b ≡ false → Good P L y) → Good P L (cond b x y)
-    by-cond true x y p q = p refl
-    by-cond false x y p q = q refl
+    -- a call at a step that is present, by what it comes to
+    module _ (j : ℕ) (l : List Entry) (few : ltb 8000001 (s .used) ≡ true → ⊥) where
+      abbrev Comes : Event → Type 0
+      Comes e = Good P L (cameTo (stepAfter (suc j) (present l)) s (seeing s r) e)
 
-    on : (o : Op) (l : List Entry) (f : Fields) (u : ℕ) → from (s .step) P ≡ entry true o ∷ l → Closed l → u + mostReadings L l ≤ 8000001 →
-        Good P L (moved s l f u)
-    on o l f u e c h =
-        let n : from (s .step + 1 + skipped l) P ≡ skipOff l =
-        ap (λ (k : ℕ). from (k + skipped l) P) (add-one (s .step)) ∙ next-from P L (s .step) (entry true o) l e in
-        (next-at l (s .step + 1 + skipped l) u c n h, refl)
+      of-write : (g : Fields) {e : Event} → drop (suc j) P ≡ l → Closed l → s .used + mostReadings L l ≤ 8000001 → View L s true (Wrote g) e → Comes e
+      of-write g d c h (off t) = absurd (few t)
+      of-write g d c h (writes f) = (next-at l (suc j) (s .used) c d h, refl)
 
-    works : (o : Op) (l : List Entry) → from (s .step) P ≡ entry true o ∷ l → Closed (entry true o ∷ l) → Slack L o (s .unmet) →
-        s .used + mostReadings L (entry true o ∷ l) ≤ 8000001 + s .unmet → Good P L (workedOf L s r l o)
-    works (write w) l e c k h = on (write w) l (w (s .fields)) (s .used) e c (omega arith)
-    works (wait p) l e c k h =
-        let f = withSeen (s .fields) (seenOf r) in
-        let u = s .used + 1 in
-        let m = s .unmet + 1 in
-        let more : Stepped = record { startup = going (s .config) f (s .step) m u; report = Waiting (s .step) u } in
-        let off = ended s f m u (Failed 21 (s .step) u) in
-        let ready : Good P L (cond (p (seenOf r)) (moved s l f u) (unmetOf L s f)) =
-        by-cond (p (seenOf r)) (moved s l f u) (unmetOf L s f) (λ t. on (wait p) l f u e c (omega arith))
-        (λ t. by-cond (ltb m L) more off
-        (λ b. (record { op = wait p; rest = l; here = e; closed = c; slack = ltb-true m L b; room = omega arith }, refl))
-        (λ b. (refl, refl))) in
-        by-cond (leb L (s .unmet)) (handedBack s) (cond (p (seenOf r)) (moved s l f u) (unmetOf L s f))
-        (λ b. let z : true ≡ false = sym b ∙ lt-leb L (s .unmet) k in let y : _≡_ {A = ℕ} 0 1 = cc in absurd (omega arith)) (λ b. ready)
-    works (flash m) l e c k h =
-        let f = withSeen (s .fields) (seenOf r) in
-        let u = s .used + 1 in
-        by-cond (eqb (modeRead r) m) (moved s l f u) (ended s f (s .unmet) u (Failed 22 (s .step) u)) (λ t. on (flash m) l f u e c (omega arith))
-        (λ t. (refl, refl))
-    works (compare t) l e c k h =
-        by-cond (t (s .fields)) (ended s (s .fields) (s .unmet) (s .used) (Running (s .step) (s .used)))
-        (ended s (s .fields) (s .unmet) (s .used) (Refused 23))
-        (λ b. (refl, refl)) (λ b. (refl, refl))
+      of-wait : (p : Seen → Bool) (ok : Bool) {e : Event} → s .step ≡ suc j → drop j P ≡ entry true (wait p) ∷ l → Closed l → s .unmet < L →
+          s .used + mostReadings L (entry true (wait p) ∷ l) ≤ 8000001 + s .unmet → View L s true (Waits ok) e → Comes e
+      of-wait p ok k d c sl h (off t) = absurd (few t)
+      of-wait p ok k d c sl h (spent t) = absurd (omega arith)
+      of-wait p ok k d c sl h (meets f u t) = (next-at l (suc j) (s .used + 1) c (behind j P (entry true (wait p)) l d) (omega arith), refl)
+      of-wait p ok k d c sl h (waits f u t) =
+          (record { before = j; op = wait p; rest = l; here = d; step = k; closed = c; slack = u; room = omega arith }, refl)
+      of-wait p ok k d c sl h (misses f u t) = (refl, refl)
+
+      of-flash : (mode : ℕ) {e : Event} → drop (suc j) P ≡ l → Closed l → s .used + 1 + mostReadings L l ≤ 8000001 → View L s true (Reads mode) e → Comes e
+      of-flash mode d c h (off t) = absurd (few t)
+      of-flash mode d c h (shows f) = (next-at l (suc j) (s .used + 1) c d h, refl)
+      of-flash mode d c h (differs f) = (refl, refl)
+
+      of-compare : (same : Bool) {e : Event} → View L s true (Compares same) e → Comes e
+      of-compare same (off t) = absurd (few t)
+      of-compare same (ends f) = compared-good (stepAfter (suc j) (present l)) s (seeing s r) same
+
+      came : (o : Op) {e : Event} → s .step ≡ suc j → drop j P ≡ entry true o ∷ l → Closed (entry true o ∷ l) → Slack L o (s .unmet) →
+          s .used + mostReadings L (entry true o ∷ l) ≤ 8000001 + s .unmet → View L s true (doneOf o (s .fields) (seenOf r)) e → Comes e
+      came (write w) k d c sl h v = of-write (w (s .fields)) (behind j P (entry true (write w)) l d) c (omega arith) v
+      came (wait p) k d c sl h v = of-wait p (p (seenOf r)) k d c sl h v
+      came (flash m) k d c sl h v = of-flash m (behind j P (entry true (flash m)) l d) c (omega arith) v
+      came (compare t) k d c sl h v = of-compare (t (s .fields)) v
 
     by-phase : (h : Phase) → s .phase ≡ h → Fine P L s h → Good P L (inPhase P L s r h)
-    unfolding callIn
     by-phase Going e a =
-        let most = used-le L (a .op) (a .rest) (s .unmet) (s .used) (a .slack) (a .room) in
-        let small : ltb 8000001 (s .used) ≡ false = le-ltb 8000001 (s .used) most in
-        let q : callIn L s r (from (s .step) P) ≡ workedOf L s r (a .rest) (a .op) =
-        ap (callIn L s r) (a .here) ∙ ap (λ (b : Bool). cond b (handedBack s) (workedOf L s r (a .rest) (a .op))) small in
-        subst (Good P L) (sym q) (works (a .op) (a .rest) (a .here) (a .closed) (a .slack) (a .room))
+        let few = used-le L (a .op) (a .rest) (s .unmet) (s .used) (a .slack) (a .room) in
+        rw (at-step P L (a .before) (a .op) (a .rest) (a .here) s r (a .step))
+        (came (a .before) (a .rest) (λ t. let most = ltb-true 8000001 (s .used) t in omega arith) (a .op)
+        (a .step) (a .here) (a .closed) (a .slack) (a .room) (view L s r true (doneOf (a .op) (s .fields) (seenOf r))))
     by-phase (Over last) e a = (subst (Fine P L s) (sym e) a, a)
 
     pub good : Inside P L s → Good P L (machine P L s r)
@@ -130,12 +133,5 @@ module _ (P : List Entry) (L : ℕ) (some : 0 < L) where
     good a = by-phase (s .phase) refl a
 
   -- the first step
-  pub first-at : (o : Op) (l : List Entry) → P ≡ entry true o ∷ l → Closed P → 0 + mostReadings L P ≤ 8000001 → At P L 1 0 0
-  first-at o l e c h = record {
-    op = o;
-    rest = l;
-    here = e;
-    closed = subst Closed e c;
-    slack = no-slack L o some;
-    room = subst (λ (Q : List Entry). 0 + mostReadings L Q ≤ 8000001) e h;
-  }
+  pub first-at : Closed P → 0 + mostReadings L P ≤ 8000001 → At P L (stepAfter 0 (present P)) 0 0
+  first-at c h = next-at P 0 0 c refl h

@@ -19,7 +19,7 @@ use Rattle.profile.proofs.RoundTrip as profile
 use Rattle.image.specs.declared.Fields.{Fields}
 use Rattle.image.specs.Image.{widths, listOf, inWidth, readImage, imageBytes}
 use Rattle.image.proofs.RoundTrip as image
-use Rattle.steps.specs.Steps.{Entry, steps}
+use Rattle.startup.specs.Steps.{Entry, steps}
 use Rattle.startup.specs.declared.Reading.{Reading}
 use Rattle.startup.specs.declared.Startup.{Startup}
 use Rattle.startup.specs.declared.Stepped.{Stepped}
@@ -31,10 +31,10 @@ use Rattle.demands.proofs.Accepted.{accepted-tells}
 use Rattle.demands.proofs.Machine.{machine}
 use Rattle.demands.proofs.Width.{wide, in-width}
 use Rattle.demands.proofs.Third.{bounds, Sound, same-step, stays-sound, starts, demand3}
-use Rattle.lent.specs.Given.{numberIn, Given}
+use Rattle.capi_give.specs.Given.{numberIn, Given}
 use Rattle.capi_startup.specs.Kept.{keptOf, tailOf, placeOf}
 use Rattle.capi_startup.specs.Calls.{readingOf, startRead, begunWith, startBytes, callOf, stepBytes}
-use Rattle.capi_owed.specs.Owed.{callsRead}
+use Rattle.capi.specs.Owed.{callsRead}
 use Rattle.capi_demands.specs.Place.{Storable}
 use Rattle.capi_demands.specs.Hosted.{Hosts, Shows, Tells, readings, Served, Demand3InC, HostsThere}
 use Rattle.capi_demands.proofs.Again.{kept-again}
@@ -174,7 +174,7 @@ module _ (c : Config) {x : Clocks × ℕ} (q : checkOf c ≡ gives x) (p : List 
 
   begun-held : (f : Fields) → inWidth f ≡ true → Held (begun c f)
   begun-held f w =
-      ((refl, wide f w), first-at P 1000000 million _ _ refl refl (bounds c (x .0) .1), starts-storable c f (begun c f) (starts c q f w))
+      ((refl, wide f w), first-at P 1000000 million refl (bounds c (x .0) .1), starts-storable c f (begun c f) (starts c q f w))
 
   module _ (i : List ℕ) (f : Fields) (w : inWidth f ≡ true) (e : readProfile p ≡ gives c) (o : readImage i ≡ gives f) (l : List ℕ)
       (h : 32 ≤ length l) where

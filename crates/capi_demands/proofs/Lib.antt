@@ -1,6 +1,5 @@
 pub mod Bits
 pub mod Again
-pub mod Lists
 pub mod Stays
 pub mod Going
 pub mod Hosted

@@ -1,15 +1,14 @@
 -- What starting gives can be stored, a call keeps that, and the place that a call leaves is read back. Assumes nothing.
-use Prim.Native.Nat.{ℕ, _+_, _≤_, _<_}
+use Prim.Native.Nat.{ℕ, suc, _+_, _≤_, _<_}
 use mathlib.Core.Path.{_≡_, refl, sym, ap, _∙_, subst}
 use mathlib.Core.Logic.{_⊎_, inl, inr, ⊎-elim}
 use mathlib.Core.Bool.{Bool, true, false, cond, not, _||_}
 use mathlib.Core.List.{List, [], _∷_}
 use native.Mathlib.Omega.{arith}
-use borrow.Author.Tests.{ltb-true, ltb-false, leb-false, eqb-true, eq-eqb}
-use lib.Dec.{eqb, ltb, leb, lit<}
-use lib.ListN.{length, take, drop}
+use borrow.Author.Tests.{eqb-true, eq-eqb}
+use lib.Dec.{eqb, lit<}
+use lib.ListN.{length, take, drop, length-drop}
 use Rattle.answer.specs.Answer.{Answer, gives, refuses, refuse, _>>_, bound, followed, passed}
-use Rattle.divider.specs.Facts.{neither}
 use Rattle.layout.specs.Bits.{bitsAt}
 use Rattle.layout.proofs.Reading.{bits-lt}
 use Rattle.tree.specs.declared.Clocks.{Clocks}
@@ -18,19 +17,18 @@ use Rattle.v4x7.specs.Check.{namedOf, checkOf}
 use Rattle.profile.specs.Profile.{readProfile}
 use Rattle.image.specs.declared.Fields.{Fields}
 use Rattle.image.specs.Image.{inWidth, readImage}
-use Rattle.steps.specs.Writes.{withSeen}
-use Rattle.steps.specs.Steps.{Op, write, wait, flash, compare, Entry, entry, steps, from, onIn}
+use Rattle.startup.specs.Steps.{parts, stepAfter, listedOf, nextOf, workOf}
+use Rattle.startup.specs.declared.steps.Work.{Work}
 use Rattle.startup.specs.declared.Reading.{Reading}
-use Rattle.startup.specs.declared.Report.the-variants.{Waiting, Running, Failed, Refused}
+use Rattle.startup.specs.declared.Report.the-variants.{Running, Failed, Refused}
 use Rattle.startup.specs.declared.Phase.{Phase}
 use Rattle.startup.specs.declared.Phase.the-variants.{Going, Over}
 use Rattle.startup.specs.declared.Startup.{Startup}
-use Rattle.startup.specs.declared.Stepped.{Stepped}
-use Rattle.startup.specs.Call.{numberOf, seenOf, modeRead, going, ended, handedBack, skipped, moved, unmetOf, workedOf, worksIn, callIn, stepBy, startOf, stepOf}
+use Rattle.startup.specs.Call.{numberOf, seenOf, going, handedBack, Event, compared, cameTo, seeing, stepBy, startOf, stepOf}
+use Rattle.startup.specs.View.{View, off, none, spent, writes, meets, waits, misses, shows, differs, ends, view}
 use Rattle.capi_startup.specs.Kept.{phaseOf, standingOf, keptOf, placeOf}
 use Rattle.capi_startup.specs.Calls.{readingOf, callOf, stepBytes}
 use Rattle.capi_demands.specs.Place.{HeldPhase, Storable, StartsStorable, StaysStorable, CallReadsBack}
-use Rattle.capi_demands.proofs.Lists.{behind-le, skipped-le}
 use Rattle.capi_demands.proofs.Again.{kept-again}
 
 -- a startup of small numbers that is going
@@ -46,75 +44,48 @@ starts-storable c f s e =
     let o : b ≡ s = cc in
     subst Storable o (small c f 1 0 0 (lit< tt) (omega arith) (omega arith))
 
-module _ (s : Startup) (st : Storable s) (r : Reading) where
-  abbrev Stored : Stepped → Type 0
-  Stored x = Storable (x .startup)
+-- a byte's step is followed by a byte's step
+after-le : (k : ℕ) (l : List Bool) → stepAfter k l ≤ k + length l
+after-le k [] = omega arith
+after-le k (true ∷ l) = omega arith
+after-le k (false ∷ l) = let h = after-le (suc k) l in omega arith
 
-  by-cond : (b : Bool) (x y : Stepped) → (b ≡ true → Stored x) → (b ≡ false → Stored y) → Stored (cond b x y)
-  by-cond true x y p q = p refl
-  by-cond false x y p q = q refl
+next-byte : (c : Config) (k : ℕ) → k < 256 → nextOf c k < 256
+unfolding nextOf
+next-byte c k h = omega (arith, after-le k (drop k (parts c)), length-drop k (parts c))
 
-  module _ (P : List Entry) (short : length P < 255) where
-    on : (x : Entry) (l : List Entry) (f : Fields) (u : ℕ) → from (s .step) P ≡ x ∷ l → u ≤ 8000002 → Stored (moved s l f u)
-    on x l f u e h =
-        small (s .config) f (s .step + 1 + skipped l) 0 u (omega (arith, behind-le (s .step) P x l e, skipped-le l)) (omega arith) h
+module _ (s : Startup) (st : Storable s) where
+  compared-so : (next : ℕ) (f : Fields) (same : Bool) → Storable (cameTo next s f (compared same) .startup)
+  compared-so next f true = record { step = st .step; unmet = st .unmet; used = st .used; phase = (refl, refl) }
+  compared-so next f false = record { step = st .step; unmet = st .unmet; used = st .used; phase = refl }
 
-    works : (b : Bool) (o : Op) (l : List Entry) → from (s .step) P ≡ entry b o ∷ l → s .used ≤ 8000001 → Stored (workedOf 1000000 s r l o)
-    works b (write w) l e h = on (entry b (write w)) l (w (s .fields)) (s .used) e (omega arith)
-    works b (wait p) l e h =
-        let f = withSeen (s .fields) (seenOf r) in
-        let u = s .used + 1 in
-        let m = s .unmet + 1 in
-        let more : Stepped = record { startup = going (s .config) f (s .step) m u; report = Waiting (s .step) u } in
-        let off = ended s f m u (Failed 21 (s .step) u) in
-        by-cond (leb 1000000 (s .unmet)) (handedBack s) (cond (p (seenOf r)) (moved s l f u) (unmetOf 1000000 s f)) (λ t. st)
-        (λ few. by-cond (p (seenOf r)) (moved s l f u) (unmetOf 1000000 s f) (λ t. on (entry b (wait p)) l f u e (omega arith))
-        (λ t. by-cond (ltb m 1000000) more off
-        (λ k. small (s .config) f (s .step) m u (st .step) (omega (arith, ltb-true m 1000000 k)) (omega arith))
-        (λ k. record {
-          step = st .step;
-          unmet = omega (arith, leb-false 1000000 (s .unmet) few);
-          used = omega arith;
-          phase = (inl refl, refl, refl);
-        })))
-    works b (flash m) l e h =
-        let f = withSeen (s .fields) (seenOf r) in
-        let u = s .used + 1 in
-        by-cond (eqb (modeRead r) m) (moved s l f u) (ended s f (s .unmet) u (Failed 22 (s .step) u))
-        (λ t. on (entry b (flash m)) l f u e (omega arith))
-        (λ t. record { step = st .step; unmet = st .unmet; used = omega arith; phase = (inr refl, refl, refl) })
-    works b (compare t) l e h =
-        by-cond (t (s .fields)) (ended s (s .fields) (s .unmet) (s .used) (Running (s .step) (s .used)))
-        (ended s (s .fields) (s .unmet) (s .used) (Refused 23))
-        (λ k. record { step = st .step; unmet = st .unmet; used = st .used; phase = (refl, refl) })
-        (λ k. record { step = st .step; unmet = st .unmet; used = st .used; phase = refl })
+  -- a call, by what it comes to
+  came : (next : ℕ) (f : Fields) {listed : Bool} {w : Work} {e : Event} → next < 256 → View 1000000 s listed w e → Storable (cameTo next s f e .startup)
+  came next f n (off t) = st
+  came next f n none = st
+  came next f n (spent t) = st
+  came next f n (writes h) = small (s .config) _ next 0 (s .used) n (omega arith) (omega arith)
+  came next f n (meets h few t) = small (s .config) f next 0 (s .used + 1) n (omega arith) (omega arith)
+  came next f n (waits h few t) = small (s .config) f (s .step) (s .unmet + 1) (s .used + 1) (st .step) (omega arith) (omega arith)
+  came next f n (misses h few t) =
+      record { step = st .step; unmet = omega arith; used = omega arith; phase = (inl refl, refl, refl) }
+  came next f n (shows h) = small (s .config) f next 0 (s .used + 1) n (omega arith) (omega arith)
+  came next f n (differs h) = record { step = st .step; unmet = st .unmet; used = omega arith; phase = (inr refl, refl, refl) }
+  came next f n (ends {same} h) = compared-so next f same
 
-    in-list : (q : List Entry) → from (s .step) P ≡ q → s .used ≤ 8000001 → Stored (worksIn 1000000 s r q)
-    in-list [] e h = st
-    in-list (entry b o ∷ l) e h = works b o l e h
-
-    called : Stored (callIn 1000000 s r (from (s .step) P))
-    unfolding callIn
-    called =
-        let q = from (s .step) P in
-        let most = ltb 8000001 (s .used) in
-        by-cond (not (onIn q) || most) (handedBack s) (worksIn 1000000 s r q) (λ t. st)
-        (λ t. in-list q refl (ltb-false 8000001 (s .used) (neither (not (onIn q)) most t .1)))
-
-  by-phase : (a : Answer (Clocks × ℕ)) (h : Phase) → Stored (stepBy a s r h)
-  by-phase (gives x) (Over last) = st
-  by-phase (refuses n) (Over last) = st
-  by-phase (refuses n) Going = st
-  by-phase (gives x) Going = called (steps (s .config) (x .0)) (lit< tt)
-
-  kept-so : Storable (stepOf s r .startup)
-  unfolding stepOf
-  kept-so =
-      let a = checkOf (s .config) in
-      by-cond (not (namedOf (s .config)) || not (inWidth (s .fields))) (handedBack s) (stepBy a s r (s .phase)) (λ t. st) (λ t. by-phase a (s .phase))
+  by-phase : (b : Bool) (a : Answer (Clocks × ℕ)) (r : Reading) (h : Phase) → Storable (cond b (handedBack s) (stepBy a s r h) .startup)
+  by-phase true a r h = st
+  by-phase false (refuses n) r (Over last) = st
+  by-phase false (gives x) r (Over last) = st
+  by-phase false (refuses n) r Going = st
+  by-phase false (gives x) r Going =
+      let work = workOf (s .config) (x .0) (s .step) (s .fields) (seenOf r) in
+      came (nextOf (s .config) (s .step)) (seeing s r) (next-byte (s .config) (s .step) (st .step))
+      (view 1000000 s r (listedOf (s .config) (s .step)) work)
 
 pub stays-storable : StaysStorable
-stays-storable s r st = kept-so s st r
+unfolding stepOf
+stays-storable s r st = by-phase s st (not (namedOf (s .config)) || not (inWidth (s .fields))) (checkOf (s .config)) r (s .phase)
 
 -- ---- any bytes
 

@@ -1,63 +1,105 @@
--- The user's first demand, of the calls for C and Rust: what each returns is 0 or a number of its list. That is 32 where memory with a length is
--- lent, then document 01's numbers for what reads the bytes handed in, then those of the call behind it, as `Demand1` lists them (28 with them,
--- though no code of a profile or an image that was read is too wide). That a refusal leaves what was lent is `Demand1`'s `call` and `call-one`; that
--- two results of a call are equal, `given-settled` and `given-one-settled`.
+-- The user's first demand, of the calls for C and Rust: what each returns is the number of the first test of its list that holds, and 0 where none
+-- does. The lists are those of `Demand1`, put together: 32 where memory with a length is lent, then the tests of what reads the bytes handed in,
+-- then those of the call behind it, over what was read. That a refusal leaves what was lent is `Demand1`'s `call` and `call-one`; that two results
+-- of a call are equal, `given-settled` and `given-one-settled`.
 -- Assumes nothing.
-use Prim.Native.Nat.{ℕ, _/_}
+use Prim.Native.Nat.{ℕ}
 use mathlib.Core.Path.{_≡_}
-use mathlib.Core.Bool.{true}
-use mathlib.Core.List.{List, [], _∷_}
-use Rattle.answer.specs.Answer.{Answer, gives}
-use Rattle.answer.specs.Numbers.{among}
+use mathlib.Core.Bool.{Bool, true, false, not}
+use mathlib.Core.List.{List, [], _∷_, _++_}
+use lib.Dec.{ltb}
+use lib.ListN.{length, take, drop}
+use Rattle.answer.specs.Answer.{Answer, gives, refuses}
+use Rattle.answer.specs.Order.{Test, firstOf, behind}
 use Rattle.divider.specs.declared.Family.the-variants.{H4}
 use Rattle.divider.specs.Divide.{byAhbOf, fpreDivisor}
-use Rattle.h4.specs.H4.{pclkOf, doubledOf}
-use Rattle.lent.specs.Given.{Given, GivenOne, twoWords, sixWords, sevenWords}
-use Rattle.demands.specs.First.{checkNumbers, decodeNumbers, checkNumbers1, checkNumbers30, wide}
+use Rattle.divider.specs.Frequency.{whole, over}
+use Rattle.layout.specs.Layout.{fitting, packed}
+use Rattle.v4x7.specs.Order.{checkTests}
+use Rattle.profile.specs.Profile as profile
+use Rattle.profile.specs.Order as profileOrder
+use Rattle.image.specs.Image as image
+use Rattle.image.specs.Order as imageOrder
+use Rattle.decoder.specs.Order.{decodeTests, queryTests}
+use Rattle.startup.specs.Order.{owedTests}
+use Rattle.h4.specs.H4.{doubledOf}
+use Rattle.h4.specs.Order as order4
+use Rattle.capi_give.specs.Given.{Given, GivenOne, numberIn, twoWords, sixWords, sevenWords}
+use Rattle.demands.specs.First.{wide}
 use Rattle.capi.specs.Calls as capi
+use Rattle.capi.specs.Owed.{keyRead, waitsRead, callsRead}
 use Rattle.capi_codec.specs.Codec.{profileFields, profileFrom, imageFields, imageFrom}
-use Rattle.capi_startup.specs.Calls.{startBytes, stepBytes}
-use Rattle.capi_owed.specs.Owed.{keyRead, waitsRead, callsRead}
+use Rattle.startup.specs.declared.Stepped.{Stepped}
+use Rattle.capi_startup.specs.Calls.{begunWith, startRead, startBytes, callOf, stepBytes}
+use Rattle.capi_startup.specs.Order.{startReadTests, stepReadTests}
 use Rattle.capi_v1.specs.Calls as v1
+use Rattle.capi_v1.specs.Order as order1
 use Rattle.capi_v30x.specs.Calls as v30x
-use Rattle.capi_h4.specs.Calls.{clocksAhbOf}
+use Rattle.capi_v30x.specs.Order as order30
+use Rattle.capi_h4.specs.Calls.{clocksAhbOf, busWordsOf, inHertz}
 
--- a call that gives a record m of n words or bytes through lent ones returns 0, 32 or one of these
-abbrev pub Through : ℕ → Answer (List ℕ) → List ℕ → Type 0
-Through n m numbers = (l l′ : List ℕ) (r : ℕ) → Given n m l l′ r → among r (0 ∷ 32 ∷ numbers) ≡ true
+-- a call that gives a record m of n words or bytes through lent ones: 32 first
+abbrev pub Through : ℕ → Answer (List ℕ) → List Test → Type 0
+Through n m tests = (l l′ : List ℕ) (r : ℕ) → Given n m l l′ r → r ≡ numberIn (firstOf ((32, ltb (length l) n) ∷ tests))
 
--- and one that gives a number through one lent word, 0 or one of these
-abbrev pub ThroughOne : Answer ℕ → List ℕ → Type 0
-ThroughOne m numbers = (x x′ r : ℕ) → GivenOne m x x′ r → among r (0 ∷ numbers) ≡ true
+-- one that gives a number through one lent word
+abbrev pub ThroughOne : Answer ℕ → List Test → Type 0
+ThroughOne m tests = (x x′ r : ℕ) → GivenOne m x x′ r → r ≡ numberIn (firstOf tests)
+
+abbrev pub refusing : {A : Type 0} → Answer A → Bool
+refusing (gives x) = false
+refusing (refuses n) = true
+
+-- the writers of profile and image, for a place
+abbrev pub placeTests : Stepped → List Test
+placeTests x = (30, not (profile.writable (x .startup .config))) ∷ (28, not (image.inWidth (x .startup .fields))) ∷ []
 
 pub record Demand1InC : Type 0 where
-  -- V4x7: the check, the decoder, the queries
-  pub check : (p : List ℕ) → Through 7 (sevenWords (capi.checkRead p)) (29 ∷ 30 ∷ checkNumbers)
-  pub decode : (i : List ℕ) (hz : ℕ) → Through 6 (sixWords (capi.decodeRead i hz)) (31 ∷ decodeNumbers)
-  pub adc : (i : List ℕ) (sys : ℕ) → Through 2 (twoWords (capi.pairOf (capi.adcRead i sys))) (31 ∷ wide)
-  pub rng : (i : List ℕ) (sys : ℕ) → Through 2 (twoWords (capi.pairOf (capi.rngRead i sys))) (31 ∷ wide)
-  -- profiles and images, and their fields
-  pub read-profile : (p : List ℕ) → Through 24 (profileFields p) (29 ∷ 30 ∷ [])
-  pub write-profile : (xs : List ℕ) → Through 10 (profileFrom xs) (30 ∷ [])
-  pub read-image : (i : List ℕ) → Through 34 (imageFields i) (31 ∷ [])
-  pub write-image : (xs : List ℕ) → Through 8 (imageFrom xs) wide
-  -- the startup: starting, a call on a place, the keys, the waits, the calls
-  pub start : (p i : List ℕ) → Through 32 (startBytes p i) (29 ∷ 30 ∷ 31 ∷ checkNumbers)
-  pub step : (l l′ : List ℕ) (w r : ℕ) → Given 32 (stepBytes l w) l l′ r → among r (0 ∷ 32 ∷ 30 ∷ 31 ∷ wide) ≡ true
-  pub key : (position : ℕ) → Through 2 (twoWords (keyRead position)) wide
-  pub waits : (p : List ℕ) → ThroughOne (waitsRead p) (29 ∷ 30 ∷ wide)
-  pub calls : (p : List ℕ) → ThroughOne (callsRead p) (29 ∷ 30 ∷ wide)
+  -- V4x7: the check, the decoder, the queries, behind the readers of profile and image
+  pub check : (p : List ℕ) → Through 7 (sevenWords (capi.checkRead p)) (profileOrder.readTests p ++ behind (profile.readProfile p) checkTests)
+  pub decode : (i : List ℕ) (hz : ℕ) →
+      Through 6 (sixWords (capi.decodeRead i hz)) (imageOrder.readTests i ++ behind (image.readImage i) (λ f. decodeTests f (capi.hseOf hz)))
+  pub adc : (i : List ℕ) (sys : ℕ) →
+      Through 2 (twoWords (capi.pairOf (capi.adcRead i sys))) (imageOrder.readTests i ++ behind (image.readImage i) queryTests)
+  pub rng : (i : List ℕ) (sys : ℕ) →
+      Through 2 (twoWords (capi.pairOf (capi.rngRead i sys))) (imageOrder.readTests i ++ behind (image.readImage i) queryTests)
+  -- profiles and images, and their fields: fields that don't fit, or a record that its reader refuses
+  pub read-profile : (p : List ℕ) → Through 24 (profileFields p) (profileOrder.readTests p)
+  pub write-profile : (xs : List ℕ) →
+      Through 10 (profileFrom xs)
+      ((30, not (fitting profile.widths xs)) ∷ (30, refusing (profile.readProfile (packed 10 profile.widths xs))) ∷ [])
+  pub read-image : (i : List ℕ) → Through 34 (imageFields i) (imageOrder.readTests i)
+  pub write-image : (xs : List ℕ) →
+      Through 8 (imageFrom xs) ((28, not (fitting image.widths xs)) ∷ (28, refusing (image.readImage (packed 8 image.widths xs))) ∷ [])
+  -- the startup: starting, a call on a place, each with what writes the place; the keys, the waits, the calls
+  pub start : (p i : List ℕ) →
+      Through 32 (startBytes p i)
+      (startReadTests checkTests (profileOrder.readTests p) (imageOrder.readTests i) p i ++ behind (startRead p i) (λ s. placeTests (begunWith s)))
+  pub step : (place : List ℕ) (w : ℕ) →
+      Through 32 (stepBytes place w)
+      (stepReadTests (profileOrder.readTests (take 10 place)) (imageOrder.readTests (take 8 (drop 10 place))) place w
+      ++ behind (callOf place w) placeTests)
+  pub key : (position : ℕ) → Through 2 (twoWords (keyRead position)) (wide 4 position)
+  pub waits : (p : List ℕ) → ThroughOne (waitsRead p) (profileOrder.readTests p ++ behind (profile.readProfile p) owedTests)
+  pub calls : (p : List ℕ) → ThroughOne (callsRead p) (profileOrder.readTests p ++ behind (profile.readProfile p) owedTests)
   -- V1 and L1
-  pub check1 : (part : ℕ) (c : List ℕ) → Through 7 (sevenWords (v1.checkRead part c)) checkNumbers1
-  pub decode1 : (part : ℕ) (f : List ℕ) (hz : ℕ) → Through 6 (sixWords (v1.decodeRead part f hz)) (28 ∷ 3 ∷ 24 ∷ [])
-  pub fields1 : (part : ℕ) (c f : List ℕ) → Through 8 (v1.fieldBytes (v1.initRead part c f)) checkNumbers1
+  pub check1 : (part : ℕ) (c l l′ : List ℕ) (r : ℕ) → Given 7 (sevenWords (v1.checkRead part c)) l l′ r →
+      r ≡ numberIn (firstOf (order1.checkCallTests part c l))
+  pub decode1 : (part : ℕ) (f : List ℕ) (hz : ℕ) (l l′ : List ℕ) (r : ℕ) → Given 6 (sixWords (v1.decodeRead part f hz)) l l′ r →
+      r ≡ numberIn (firstOf (order1.decodeCallTests part f hz l))
+  pub fields1 : (part : ℕ) (c f l l′ : List ℕ) (r : ℕ) → Given 8 (v1.fieldBytes (v1.initRead part c f)) l l′ r →
+      r ≡ numberIn (firstOf (order1.fieldsCallTests part c f l))
   -- V30x
-  pub check30 : (c : List ℕ) → Through 7 (sevenWords (v30x.checkRead c)) checkNumbers30
-  pub decode30 : (f : List ℕ) (hz : ℕ) → Through 6 (sixWords (v30x.decodeRead f hz)) (28 ∷ 27 ∷ 3 ∷ 24 ∷ [])
-  pub fields30 : (c f : List ℕ) → Through 9 (v30x.fieldBytes (v30x.initRead c f)) checkNumbers30
+  pub check30 : (c l l′ : List ℕ) (r : ℕ) → Given 7 (sevenWords (v30x.checkRead c)) l l′ r → r ≡ numberIn (firstOf (order30.checkCallTests c l))
+  pub decode30 : (f : List ℕ) (hz : ℕ) (l l′ : List ℕ) (r : ℕ) → Given 6 (sixWords (v30x.decodeRead f hz)) l l′ r →
+      r ≡ numberIn (firstOf (order30.decodeCallTests f hz l))
+  pub fields30 : (c f l l′ : List ℕ) (r : ℕ) → Given 9 (v30x.fieldBytes (v30x.initRead c f)) l l′ r →
+      r ≡ numberIn (firstOf (order30.fieldsCallTests c f l))
   -- H4; HCLK is never refused
-  pub clocks4 : (sys hpre fpre ppre1 ppre2 : ℕ) → Through 7 (sevenWords (clocksAhbOf sys hpre fpre ppre1 ppre2)) wide
-  pub ahb4 : (sys hpre : ℕ) → ThroughOne (byAhbOf H4 sys hpre) wide
-  pub hclk4 : (ahb fpre : ℕ) → ThroughOne (gives (ahb / fpreDivisor fpre)) []
-  pub pclk4 : (hclk ppre : ℕ) → Through 2 (twoWords (pclkOf hclk ppre)) wide
-  pub doubled4 : (position : ℕ) → ThroughOne (doubledOf position) wide
+  pub clocks4 : (sys hpre fpre ppre1 ppre2 : ℕ) →
+      Through 7 (sevenWords (clocksAhbOf sys hpre fpre ppre1 ppre2))
+      (order4.prescaledTests (record { hpre = hpre; fpre = fpre; ppre1 = ppre1; ppre2 = ppre2 }))
+  pub ahb4 : (sys hpre : ℕ) → ThroughOne (inHertz (byAhbOf H4 (whole sys) hpre)) (wide 16 hpre)
+  pub hclk4 : (ahb fpre : ℕ) → ThroughOne (gives (over (whole ahb) (fpreDivisor fpre) .hz)) []
+  pub pclk4 : (hclk ppre : ℕ) → Through 2 (twoWords (busWordsOf hclk ppre)) (order4.pclkTests ppre)
+  pub doubled4 : (position : ℕ) → ThroughOne (doubledOf position) (wide 32 position)

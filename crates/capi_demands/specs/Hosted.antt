@@ -16,10 +16,10 @@ use Rattle.startup.specs.declared.Stepped.{Stepped}
 use Rattle.startup.specs.Call.{numberOf, namedStep, stepOf}
 use Rattle.demands.specs.Runs.{Readings, run}
 use Rattle.demands.specs.Third.{begun, bound, Shown}
-use Rattle.lent.specs.Given.{Given}
+use Rattle.capi_give.specs.Given.{Given}
 use Rattle.capi_startup.specs.Kept.{tagOf, wentOf, keptOf, placeOf}
 use Rattle.capi_startup.specs.Calls.{readingOf, begunWith, startBytes, stepBytes}
-use Rattle.capi_owed.specs.Owed.{callsRead}
+use Rattle.capi.specs.Owed.{callsRead}
 
 -- A host lends the bytes l to `wontabeli_start` with the profile p and the image i, which answers r, and then lends what it finds to
 -- `wontabeli_step` again and again, with any readings: call n takes ws n, finds the bytes m n, answers rs n and leaves the bytes m (suc n).

@@ -5,7 +5,7 @@ use mathlib.Core.List.{List, [], _++_, append-nil}
 use native.Mathlib.Omega.{arith}
 use lib.ListN.{length, replicate, length-append}
 use Rattle.answer.specs.Answer.{Answer, gives, refuses, _>>=_, _>>_}
-use Rattle.answer.specs.Said.{done}
+use Rattle.answer.specs.Said.{outcomeSays}
 use Rattle.answer.specs.declared.Outcome.{Outcome}
 use Rattle.answer.specs.declared.Outcome.the-variants as outcome
 use Rattle.layout.specs.Lent.{after, Wrote}
@@ -14,26 +14,26 @@ use Rattle.profile.proofs.RoundTrip as profile
 use Rattle.image.specs.Image.{imageBytes}
 use Rattle.image.proofs.RoundTrip as image
 use Rattle.startup.specs.declared.Stepped.{Stepped}
-use Rattle.lent.specs.Given.{Given}
+use Rattle.capi_give.specs.Given.{Given}
 use Rattle.capi_startup.specs.Kept.{tailOf, placeOf}
-use Rattle.lent.specs.Giving.{refused, passed-on}
+use Rattle.capi_give.specs.Giving.{refused, passed-on}
 
 -- a write of the whole of the lent bytes
 written-whole : (m : Answer (List ℕ)) (l l′ : List ℕ) (r : Outcome) → r ≡ outcome.Done
     → let w : Answer (List ℕ) = _>>=_ m (λ b. gives (b ++ [])) in
-    done r ≡ _>>_ w (gives tt) → l′ ≡ after l w → m ≡ gives l′
+    outcomeSays r ≡ _>>_ w (gives tt) → l′ ≡ after l w → m ≡ gives l′
 written-whole (gives b) l l′ r q e k = ap gives (sym (k ∙ append-nil b))
 written-whole (refuses n) l l′ r q e k =
-    let d : done outcome.Done ≡ refuses n = ap done (sym q) ∙ e in
+    let d : outcomeSays outcome.Done ≡ refuses n = ap outcomeSays (sym q) ∙ e in
     let z : _≡_ {A = ℕ} 0 1 = cc in absurd (omega arith)
 
 not-written : (m : Answer (List ℕ)) (k : ℕ) (r : Outcome) → r ≡ outcome.Refused k →
-    done r ≡ _>>_ (_>>=_ m (λ b. gives (b ++ []))) (gives tt) → m ≡ refuses k
+    outcomeSays r ≡ _>>_ (_>>=_ m (λ b. gives (b ++ []))) (gives tt) → m ≡ refuses k
 not-written (gives b) k r q e =
-    let d : done (outcome.Refused k) ≡ gives tt = ap done (sym q) ∙ e in
+    let d : outcomeSays (outcome.Refused k) ≡ gives tt = ap outcomeSays (sym q) ∙ e in
     let z : _≡_ {A = ℕ} 0 1 = cc in absurd (omega arith)
 not-written (refuses n) k r q e =
-    let d : done (outcome.Refused k) ≡ refuses n = ap done (sym q) ∙ e in
+    let d : outcomeSays (outcome.Refused k) ≡ refuses n = ap outcomeSays (sym q) ∙ e in
     let z : n ≡ k = cc in ap refuses z
 
 module _ (x : Stepped) (l p : List ℕ) (r : Outcome) (h : 32 ≤ length l)

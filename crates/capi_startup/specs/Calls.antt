@@ -56,6 +56,6 @@ stepBytes l w = do
   x ← callOf l w
   placeOf x
 
-abbrev pub calledOf : Called → Answer Stepped
-calledOf (called.Is x) = gives x
-calledOf (called.Refused n) = refuses n
+abbrev pub calledSays : Called → Answer Stepped
+calledSays (called.Is x) = gives x
+calledSays (called.Refused n) = refuses n

@@ -1,2 +1,4 @@
 pub mod Calls
 pub mod Kept
+pub mod Reading
+pub mod Order

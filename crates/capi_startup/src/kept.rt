@@ -3,8 +3,8 @@ ghost use mathlib.Core.Path.{_≡_};
 ghost use mathlib.Core.List.{_++_};
 ghost use Prim.Native.Nat.{_≤_};
 ghost use lib.ListN.{length};
-ghost use Rattle.startup.specs.Call.{begun};
-ghost use Rattle.lent.specs.Given.{Given};
+ghost use Rattle.startup.specs.Call.{startedSays};
+ghost use Rattle.capi_give.specs.Given.{Given};
 ghost use Rattle.capi_startup.specs.Kept.{phaseOf, lastTag, tagOf, wentOf, standingOf, keptOf, tailOf, placeOf};
 use crate::PHASE_GOING;
 use crate::PHASE_RUNNING;
@@ -120,7 +120,7 @@ fn standing(config: Config, fields: Fields, place: &[u8]) -> Startup
 // The startup that a place holds.
 pub fn kept(place: &[u8]) -> Started
     requires { ⌜ 32 ≤ length (now place) ⌝ }
-    ensures { λ r. ⌜ begun r ≡ keptOf (now (place .entry)) ⌝ }
+    ensures { λ r. ⌜ startedSays r ≡ keptOf (now (place .entry)) ⌝ }
 {
     match profile::read_profile(&place[..PLACE_IMAGE]) {
         ReadProfile::Refused(n) => Started::NotStarted(n),
@@ -219,5 +219,5 @@ pub fn store(x: Stepped, place: &mut [u8]) -> u8
         return n;
     }
     let xs = join(p, i, tail(x));
-    lent::give_bytes(&xs, place)
+    capi_give::give_bytes(&xs, place)
 }

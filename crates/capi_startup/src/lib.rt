@@ -4,9 +4,9 @@ mod kept;
 ghost use mathlib.Core.Path.{_≡_};
 ghost use Prim.Native.Nat.{_≤_};
 ghost use lib.ListN.{length};
-ghost use Rattle.startup.specs.Call.{begun};
-ghost use Rattle.lent.specs.Given.{Given};
-ghost use Rattle.capi_startup.specs.Calls.{readingOf, startRead, startBytes, callOf, calledOf, stepBytes};
+ghost use Rattle.startup.specs.Call.{startedSays};
+ghost use Rattle.capi_give.specs.Given.{Given};
+ghost use Rattle.capi_startup.specs.Calls.{readingOf, startRead, startBytes, callOf, calledSays, stepBytes};
 use image::ReadImage;
 use image::Seen;
 use kept::kept;
@@ -90,7 +90,7 @@ fn reading(w: u16) -> Reading
 }
 
 fn begin(p: &[u8], i: &[u8]) -> Started
-    ensures { λ r. ⌜ begun r ≡ startRead (now (p .entry)) (now (i .entry)) ⌝ }
+    ensures { λ r. ⌜ startedSays r ≡ startRead (now (p .entry)) (now (i .entry)) ⌝ }
 {
     match profile::read_profile(p) {
         ReadProfile::Refused(n) => Started::NotStarted(n),
@@ -121,7 +121,7 @@ pub extern "C" fn wontabeli_start(p: &[u8], i: &[u8], place: &mut [u8]) -> u8
 
 fn call(place: &[u8], w: u16) -> Called
     requires { ⌜ 32 ≤ length (now place) ⌝ }
-    ensures { λ r. ⌜ calledOf r ≡ callOf (now (place .entry)) w ⌝ }
+    ensures { λ r. ⌜ calledSays r ≡ callOf (now (place .entry)) w ⌝ }
 {
     match kept(place) {
         Started::NotStarted(n) => Called::Refused(n),

@@ -17,36 +17,36 @@ use Rattle.v1.specs.declared.Pll.the-variants as pll
 use Rattle.v1.specs.declared.Config.{Config}
 use Rattle.v1.specs.declared.Fields.{Fields}
 use Rattle.v1.specs.V1.{checkOf, decodeOf, fieldsOf}
-use Rattle.capi_bytes.specs.Bytes.{at, yes, yesOrNo, frequencyOf, hseOf, hseAllowed, hseNumber}
+use Rattle.capi_pll32.specs.Bytes.{at, yes, yesOrNo, hseHzIn, configHse, hseAllowed, decoderHse}
 use Rattle.capi_v1.specs.declared.TakenConfig.{TakenConfig}
 use Rattle.capi_v1.specs.declared.TakenConfig.the-variants as config
 use Rattle.capi_v1.specs.declared.TakenFields.{TakenFields}
 use Rattle.capi_v1.specs.declared.TakenFields.the-variants as fields
 
 -- What the answers say.
-abbrev pub takenConfig : TakenConfig → Answer Config
-takenConfig (config.Is c) = gives c
-takenConfig (config.Refused n) = refuses n
+abbrev pub takenConfigSays : TakenConfig → Answer Config
+takenConfigSays (config.Is c) = gives c
+takenConfigSays (config.Refused n) = refuses n
 
-abbrev pub takenFields : TakenFields → Answer Fields
-takenFields (fields.Is f) = gives f
-takenFields (fields.Refused n) = refuses n
+abbrev pub takenFieldsSays : TakenFields → Answer Fields
+takenFieldsSays (fields.Is f) = gives f
+takenFieldsSays (fields.Refused n) = refuses n
 
 -- the part: 0 V1, 1 L1
 abbrev pub chipOf : ℕ → Chip
 chipOf part = cond (eqb part 0) chip.V1 chip.L1
 
-abbrev pub pllOf : Bool → Bool → ℕ → Pll
-pllOf present halved mul = cond present (cond halved (pll.Present prediv.Div2 mul) (pll.Present prediv.Div1 mul)) pll.Absent
+abbrev pub configPll : Bool → Bool → ℕ → Pll
+configPll present halved mul = cond present (cond halved (pll.Present prediv.Div2 mul) (pll.Present prediv.Div1 mul)) pll.Absent
 
 -- A configuration of 14 bytes: 0 HSE present, 1 bypass, 2 to 5 its frequency, 6 the system clock, 7 PLL from HSE, 8 PLL present, 9 its input halved,
 -- 10 its multiplier's code, 11 AHB, 12 APB1, 13 APB2
 unfoldable pub configOf : List ℕ → Config
 configOf l = record {
-  hse = hseOf (yes (at l 0)) (yes (at l 1)) (frequencyOf l);
+  hse = configHse (yes (at l 0)) (yes (at l 1)) (hseHzIn l);
   sys = at l 6;
   «pll_src» = sourceOf (yes (at l 7));
-  pll = pllOf (yes (at l 8)) (yes (at l 9)) (at l 10);
+  pll = configPll (yes (at l 8)) (yes (at l 9)) (at l 10);
   «ahb_pre» = at l 11;
   «apb1_pre» = at l 12;
   «apb2_pre» = at l 13;
@@ -55,7 +55,7 @@ configOf l = record {
 -- Yes or no where that is asked, and an absent part's bytes zero: so no configuration has two records
 unfoldable pub configAllowed : List ℕ → Bool
 configAllowed l =
-    hseAllowed (at l 0) (at l 1) (frequencyOf l) && yesOrNo (at l 7)
+    hseAllowed (at l 0) (at l 1) (hseHzIn l) && yesOrNo (at l 7)
     && (yesOrNo (at l 8) && yesOrNo (at l 9) && (yes (at l 8) || eqb (at l 9) 0 && eqb (at l 10) 0))
 
 unfoldable pub readConfig : List ℕ → Answer Config
@@ -106,7 +106,7 @@ unfoldable pub decodeRead : ℕ → List ℕ → ℕ → Answer Clocks
 decodeRead part l hz = do
   refuse 28 (ltb 1 part)
   f ← readFields l
-  decodeOf (chipOf part) f (hseNumber hz)
+  decodeOf (chipOf part) f (decoderHse hz)
 
 -- The fields call, likewise: the configuration's record, then that of the earlier fields
 unfoldable pub initRead : ℕ → List ℕ → List ℕ → Answer Fields

@@ -1,25 +1,24 @@
 -- Laws of the records of CH32V1 and CH32L1: a configuration has one, and the bytes that fields are given as are read as these fields.
 -- Assumes nothing.
 use Prim.Native.Nat.{ℕ, _<_}
-use mathlib.Core.Path.{_≡_, refl, sym, ap, _∙_}
-use mathlib.Core.Bool.{Bool, true, false, not, _&&_, _||_}
+use mathlib.Core.Path.{_≡_, refl, sym}
+use mathlib.Core.Bool.{Bool, true, false, _&&_, _||_}
 use mathlib.Core.List.{List, [], _∷_, _++_}
-use borrow.Author.Tests.{eqb-true, not-false}
+use borrow.Author.Tests.{eqb-true}
 use lib.Dec.{eqb}
-use lib.ListN.{length}
-use Rattle.answer.specs.Answer.{gives, passed}
+use Rattle.answer.specs.Answer.{gives}
 use Rattle.layout.proofs.Reading.{flag-of-bit}
-use Rattle.layout.proofs.Laws.{and-left, and-right}
+use Rattle.answer.specs.Tools.{and-left, and-right}
 use Rattle.v1.specs.declared.Pll.{Pll}
 use Rattle.v1.specs.declared.Pll.the-variants as pll
 use Rattle.v1.specs.declared.Config.{Config}
 use Rattle.v1.specs.declared.Fields.{Fields}
-use Rattle.v1.specs.V1.{lessOf}
-use Rattle.capi_bytes.specs.Bytes.{at, yes, yesOrNo, frequencyOf, hseAllowed}
-use Rattle.capi_bytes.specs.Records.{listed, entries, same, said-as, bit-says, or-else, sourceByte, source-back, source-says, source-read, hseThere, hseBypass, hseHz, hseBytes, hse-back, hse-says, hse-read, frequency-read}
+use Rattle.v1.specs.V1.{predivCode}
+use Rattle.capi_pll32.specs.Bytes.{at, yes, yesOrNo, hseHzIn, hseAllowed}
+use Rattle.capi_pll32.specs.Records.{listed, same, said-as, three-said, read-of-one, bit-says, or-else, sourceByte, source-back, source-says, source-read, hseThere, hseBypass, hseHz, hseBytes, hse-back, hse-says, hse-read, hse-hz-read}
 use Rattle.layout.specs.Bits.{bit}
 use Rattle.v1.specs.declared.PllPreDiv.the-variants as prediv
-use Rattle.capi_v1.specs.Calls.{pllOf, configOf, configAllowed, readConfig, readFields, bytesOf}
+use Rattle.capi_v1.specs.Calls.{configPll, configOf, configAllowed, readConfig, fieldsIn, fieldsAllowed, readFields, bytesOf}
 
 -- a PLL's three bytes: whether it is there, whether its input is halved, its multiplier's code
 abbrev pub pllThere : Pll → Bool
@@ -28,7 +27,7 @@ pllThere (pll.Present prediv mul) = true
 
 abbrev pub pllLess : Pll → ℕ
 pllLess pll.Absent = 0
-pllLess (pll.Present prediv mul) = lessOf prediv
+pllLess (pll.Present prediv mul) = predivCode prediv
 
 abbrev pub pllMul : Pll → ℕ
 pllMul pll.Absent = 0
@@ -47,7 +46,7 @@ module _ (p h mul : ℕ) (allowed : (yesOrNo p && yesOrNo h && (yes p || eqb h 0
   here : yesOrNo p ≡ true
   here = and-left (yesOrNo p) (yesOrNo h) (and-left _ _ allowed)
 
-  pll-as : (t u : Bool) → yes p ≡ t → yes h ≡ u → pllBytes (pllOf t u mul) ≡ p ∷ h ∷ mul ∷ []
+  pll-as : (t u : Bool) → yes p ≡ t → yes h ≡ u → pllBytes (configPll t u mul) ≡ p ∷ h ∷ mul ∷ []
   unfolding pllBytes
   pll-as true true e q = same (sym (eqb-true p 1 e)) (same (sym (eqb-true h 1 q)) refl)
   pll-as true false e q =
@@ -61,30 +60,25 @@ module _ (p h mul : ℕ) (allowed : (yesOrNo p && yesOrNo h && (yes p || eqb h 0
 back : (l : List ℕ) → ((i : ℕ) → at l i < 256) → configAllowed l ≡ true → configBytes (configOf l) ≡ listed (at l) 14
 unfolding configBytes configOf configAllowed
 back l small h =
-    let hse-source = and-left (hseAllowed (at l 0) (at l 1) (frequencyOf l) && yesOrNo (at l 7)) _ h in
+    let hse-source = and-left (hseAllowed (at l 0) (at l 1) (hseHzIn l) && yesOrNo (at l 7)) _ h in
     let hse = hse-back l small (and-left _ (yesOrNo (at l 7)) hse-source) in
-    let source = source-back (at l 7) (and-right (hseAllowed (at l 0) (at l 1) (frequencyOf l)) _ hse-source) in
+    let source = source-back (at l 7) (and-right (hseAllowed (at l 0) (at l 1) (hseHzIn l)) _ hse-source) in
     let pll = pll-as (at l 8) (at l 9) (at l 10)
-    (and-right (hseAllowed (at l 0) (at l 1) (frequencyOf l) && yesOrNo (at l 7)) _ h)
+    (and-right (hseAllowed (at l 0) (at l 1) (hseHzIn l) && yesOrNo (at l 7)) _ h)
     (yes (at l 8)) (yes (at l 9)) refl refl in
     rw (hse, source, pll) refl
 
 -- a configuration that is read of a record has that record alone
 pub one-record : (l : List ℕ) → ((i : ℕ) → at l i < 256) → (c : Config) → readConfig l ≡ gives c → l ≡ configBytes c
 unfolding readConfig
-one-record l small c e =
-    let sized = passed 28 (not (eqb (length l) 14)) _ e in
-    let allowed = passed 28 (not (configAllowed l)) (gives (configOf l)) (sized .after) in
-    let long : length l ≡ 14 = eqb-true (length l) 14 (not-false (eqb (length l) 14) (sized .failed)) in
-    let read : configOf l ≡ c = cc (allowed .after) in
-    entries l ∙ ap (listed (at l)) long ∙ sym (back l small (not-false (configAllowed l) (allowed .failed))) ∙ ap configBytes read
+one-record l small c = read-of-one 14 l (configAllowed l) (configOf l) configBytes (back l small)
 
 pll-says : (p : Pll) → (yesOrNo (bit (pllThere p)) && yesOrNo (pllLess p) && (yes (bit (pllThere p)) || eqb (pllLess p) 0 && eqb (pllMul p) 0)) ≡ true
 pll-says pll.Absent = refl
 pll-says (pll.Present prediv.Div1 mul) = refl
 pll-says (pll.Present prediv.Div2 mul) = refl
 
-pll-read : (p : Pll) → pllOf (yes (bit (pllThere p))) (yes (pllLess p)) (pllMul p) ≡ p
+pll-read : (p : Pll) → configPll (yes (bit (pllThere p))) (yes (pllLess p)) (pllMul p) ≡ p
 pll-read pll.Absent = refl
 pll-read (pll.Present prediv.Div1 mul) = refl
 pll-read (pll.Present prediv.Div2 mul) = refl
@@ -94,7 +88,7 @@ pub config-read-back : (c : Config) → hseHz (c .hse) < 4294967296 → readConf
 unfolding readConfig configBytes hseBytes pllBytes configAllowed configOf
 config-read-back c fits =
     rw (
-      frequency-read (bit (hseThere (c .hse))) (bit (hseBypass (c .hse))) (hseHz (c .hse)) _ fits,
+      hse-hz-read (bit (hseThere (c .hse))) (bit (hseBypass (c .hse))) (hseHz (c .hse)) _ fits,
       hse-says (c .hse),
       source-says (c .«pll_src»),
       pll-says (c .pll),
@@ -117,3 +111,11 @@ fields-read-back f =
       flag-of-bit (f .hsipre),
     )
     refl
+
+-- and they alone are: a byte that says yes or no is 1 or 0
+pub fields-one-record : (l : List ℕ) (f : Fields) → readFields l ≡ gives f → l ≡ bytesOf f
+unfolding readFields
+fields-one-record l f =
+    read-of-one 8 l (fieldsAllowed l) (fieldsIn l) bytesOf (λ h.
+    let bits = three-said (at l 1) (at l 2) (at l 7) h in
+    rw (bits .0, bits .1, bits .2) refl)

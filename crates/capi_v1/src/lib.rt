@@ -1,11 +1,11 @@
 // CH32V1 and CH32L1 for C: the check, the decoder, and the fields that starting a configuration leaves.
 ghost use mathlib.Core.Path.{_≡_};
 ghost use lib.ListN.{length};
-ghost use Rattle.pll32.specs.Pll.{accepted};
-ghost use Rattle.tree.specs.Tree.{running};
-ghost use Rattle.v1.specs.V1.{written};
-ghost use Rattle.lent.specs.Given.{Given, sixWords, sevenWords};
-ghost use Rattle.capi_v1.specs.Calls.{chipOf, pllOf, configOf, configAllowed, readConfig, takenConfig, fieldsIn, fieldsAllowed, readFields, takenFields, bytesOf, fieldBytes, checkRead, decodeRead, initRead};
+ghost use Rattle.pll32.specs.Pll.{checkedSays};
+ghost use Rattle.tree.specs.Tree.{busesSays};
+ghost use Rattle.v1.specs.V1.{writtenSays};
+ghost use Rattle.capi_give.specs.Given.{Given, sixWords, sevenWords};
+ghost use Rattle.capi_v1.specs.Calls.{chipOf, configPll, configOf, configAllowed, readConfig, takenConfigSays, fieldsIn, fieldsAllowed, readFields, takenFieldsSays, bytesOf, fieldBytes, checkRead, decodeRead, initRead};
 use pll32::Checked;
 use tree::Buses;
 use v1::Chip;
@@ -47,7 +47,7 @@ fn chip(part: u8) -> Chip
 }
 
 fn pll(present: bool, halved: bool, mul: u8) -> Pll
-    ensures { λ r. ⌜ r ≡ pllOf present halved mul ⌝ }
+    ensures { λ r. ⌜ r ≡ configPll present halved mul ⌝ }
 {
     if !present {
         return Pll::Absent;
@@ -70,7 +70,7 @@ fn config_of(b: &[u8]) -> Config
     ensures { λ r. ⌜ r ≡ configOf (now (b .entry)) ⌝ }
 {
     Config {
-        hse: capi_bytes::hse(b[0] == 1, b[1] == 1, capi_bytes::frequency(b)),
+        hse: capi_pll32::config_hse(b[0] == 1, b[1] == 1, capi_pll32::hse_hz(b)),
         sys: b[6],
         pll_src: pll32::source_of(b[7] == 1),
         pll: pll(b[8] == 1, b[9] == 1, b[10]),
@@ -84,13 +84,13 @@ fn config_allowed(b: &[u8]) -> bool
     requires { ⌜ length (now b) ≡ 14 ⌝ }
     ensures { λ r. ⌜ r ≡ configAllowed (now (b .entry)) ⌝ }
 {
-    capi_bytes::hse_allowed(b[0], b[1], capi_bytes::frequency(b))
+    capi_pll32::hse_allowed(b[0], b[1], capi_pll32::hse_hz(b))
         & (b[7] <= 1)
         & ((b[8] <= 1) & (b[9] <= 1) & ((b[8] == 1) | (b[9] == 0) & (b[10] == 0)))
 }
 
 fn take_config(b: &[u8]) -> TakenConfig
-    ensures { λ r. ⌜ takenConfig r ≡ readConfig (now (b .entry)) ⌝ }
+    ensures { λ r. ⌜ takenConfigSays r ≡ readConfig (now (b .entry)) ⌝ }
 {
     if b.len() != V1_CONFIG_SIZE {
         return TakenConfig::Refused(answer::CODE_NOT_ALLOWED);
@@ -125,7 +125,7 @@ fn fields_allowed(b: &[u8]) -> bool
 }
 
 fn take_fields(b: &[u8]) -> TakenFields
-    ensures { λ r. ⌜ takenFields r ≡ readFields (now (b .entry)) ⌝ }
+    ensures { λ r. ⌜ takenFieldsSays r ≡ readFields (now (b .entry)) ⌝ }
 {
     if b.len() != V1_FIELDS_SIZE {
         return TakenFields::Refused(answer::CODE_NOT_ALLOWED);
@@ -137,7 +137,7 @@ fn take_fields(b: &[u8]) -> TakenFields
 }
 
 fn check(part: u8, config: &[u8]) -> Checked
-    ensures { λ r. ⌜ accepted r ≡ checkRead part (now (config .entry)) ⌝ }
+    ensures { λ r. ⌜ checkedSays r ≡ checkRead part (now (config .entry)) ⌝ }
 {
     if V1_PART_L1 < part {
         return Checked::Refused(answer::CODE_NOT_ALLOWED);
@@ -154,18 +154,18 @@ fn check(part: u8, config: &[u8]) -> Checked
 pub extern "C" fn wontabeli_v1_check(part: u8, config: &[u8], out: &mut [u32]) -> u8
     ensures { λ r. ⌜ Given 7 (sevenWords (checkRead part (now (config .entry)))) (now (out .entry)) (now (out .exit)) r ⌝ }
 {
-    lent::give_seven(capi_bytes::seven(check(part, config)), out)
+    capi_give::give_seven(capi_pll32::seven(check(part, config)), out)
 }
 
 fn decode(part: u8, fields: &[u8], hse: u32) -> Buses
-    ensures { λ r. ⌜ running r ≡ decodeRead part (now (fields .entry)) hse ⌝ }
+    ensures { λ r. ⌜ busesSays r ≡ decodeRead part (now (fields .entry)) hse ⌝ }
 {
     if V1_PART_L1 < part {
         return Buses::Refused(answer::CODE_NOT_ALLOWED);
     }
     match take_fields(fields) {
         TakenFields::Refused(n) => Buses::Refused(n),
-        TakenFields::Is(f) => v1::decode(chip(part), f, capi_bytes::hse_number(hse)),
+        TakenFields::Is(f) => v1::decode(chip(part), f, capi_pll32::decoder_hse(hse)),
     }
 }
 
@@ -175,11 +175,11 @@ fn decode(part: u8, fields: &[u8], hse: u32) -> Buses
 pub extern "C" fn wontabeli_v1_decode(part: u8, fields: &[u8], hse: u32, out: &mut [u32]) -> u8
     ensures { λ r. ⌜ Given 6 (sixWords (decodeRead part (now (fields .entry)) hse)) (now (out .entry)) (now (out .exit)) r ⌝ }
 {
-    lent::give_six(decode(part, fields, hse), out)
+    capi_give::give_six(decode(part, fields, hse), out)
 }
 
 fn init_fields(part: u8, config: &[u8], earlier: &[u8]) -> Written
-    ensures { λ r. ⌜ written r ≡ initRead part (now (config .entry)) (now (earlier .entry)) ⌝ }
+    ensures { λ r. ⌜ writtenSays r ≡ initRead part (now (config .entry)) (now (earlier .entry)) ⌝ }
 {
     if V1_PART_L1 < part {
         return Written::Refused(answer::CODE_NOT_ALLOWED);
@@ -209,7 +209,7 @@ fn bytes(f: Fields) -> [u8; 8]
 }
 
 fn give_fields(fields: Written, out: &mut [u8]) -> u8
-    ensures { λ r. ⌜ Given 8 (fieldBytes (written fields)) (now (out .entry)) (now (out .exit)) r ⌝ }
+    ensures { λ r. ⌜ Given 8 (fieldBytes (writtenSays fields)) (now (out .entry)) (now (out .exit)) r ⌝ }
 {
     if out.len() < V1_FIELDS_SIZE {
         return answer::OUTPUT_TOO_SHORT;
@@ -218,7 +218,7 @@ fn give_fields(fields: Written, out: &mut [u8]) -> u8
         Written::Refused(n) => n,
         Written::Is(f) => {
             let xs = bytes(f);
-            lent::give_bytes(&xs, out)
+            capi_give::give_bytes(&xs, out)
         }
     }
 }

@@ -13,51 +13,56 @@ use Rattle.v30x.specs.declared.PllSource.{PllSource}
 use Rattle.v30x.specs.declared.PllSource.the-variants as source
 use Rattle.v30x.specs.declared.Pll.{Pll}
 use Rattle.v30x.specs.declared.Pll.the-variants as pll
+use Rattle.v30x.specs.declared.Pllx.{Pllx}
+use Rattle.v30x.specs.declared.Pllx.the-variants as pllx
 use Rattle.v30x.specs.declared.HsPll.{HsPll}
 use Rattle.v30x.specs.declared.HsPll.the-variants as hspll
 use Rattle.v30x.specs.declared.Config.{Config}
 use Rattle.v30x.specs.declared.Fields.{Fields}
 use Rattle.v30x.specs.V30x.{checkOf, decodeOf, fieldsOf}
-use Rattle.capi_bytes.specs.Bytes.{at, yes, yesOrNo, frequencyOf, hseOf, hseAllowed, hseNumber}
+use Rattle.capi_pll32.specs.Bytes.{at, yes, yesOrNo, hseHzIn, configHse, hseAllowed, decoderHse}
 use Rattle.capi_v30x.specs.declared.TakenConfig.{TakenConfig}
 use Rattle.capi_v30x.specs.declared.TakenConfig.the-variants as config
 use Rattle.capi_v30x.specs.declared.TakenFields.{TakenFields}
 use Rattle.capi_v30x.specs.declared.TakenFields.the-variants as fields
 
 -- What the answers say.
-abbrev pub takenConfig : TakenConfig → Answer Config
-takenConfig (config.Is c) = gives c
-takenConfig (config.Refused n) = refuses n
+abbrev pub takenConfigSays : TakenConfig → Answer Config
+takenConfigSays (config.Is c) = gives c
+takenConfigSays (config.Refused n) = refuses n
 
-abbrev pub takenFields : TakenFields → Answer Fields
-takenFields (fields.Is f) = gives f
-takenFields (fields.Refused n) = refuses n
+abbrev pub takenFieldsSays : TakenFields → Answer Fields
+takenFieldsSays (fields.Is f) = gives f
+takenFieldsSays (fields.Refused n) = refuses n
 
 -- what feeds the PLL: 0 HSI, 1 HSE, 2 PLL2
-abbrev pub pllSourceOf : ℕ → PllSource
-pllSourceOf b = cond (eqb b 0) source.Hsi (cond (eqb b 1) source.Hse source.Pll2)
+abbrev pub configPllSource : ℕ → PllSource
+configPllSource b = cond (eqb b 0) source.Hsi (cond (eqb b 1) source.Hse source.Pll2)
 
-abbrev pub pllOf : Bool → ℕ → ℕ → Pll
-pllOf present pre mul = cond present (pll.Present pre mul) pll.Absent
+abbrev pub configPll : Bool → ℕ → ℕ → Pll
+configPll present pre mul = cond present (pll.Present pre mul) pll.Absent
 
-abbrev pub hsPllOf : Bool → ℕ → HsPll
-hsPllOf present pre = cond present (hspll.Present pre) hspll.Absent
+abbrev pub configPllx : Bool → Pllx
+configPllx present = cond present pllx.Present pllx.Absent
+
+abbrev pub configHsPll : Bool → ℕ → HsPll
+configHsPll present pre = cond present (hspll.Present pre) hspll.Absent
 
 -- A configuration of 18 bytes: 0 HSE present, 1 bypass, 2 to 5 its frequency, 6 the system clock, 7 the PLL's source, 8 PLL present,
 -- 9 its predivider's code, 10 its multiplier's, 11 PLL2 or PLL3 asked for, 12 AHB, 13 APB1, 14 APB2, 15 USBHS from HSE, 16 USBHS present,
 -- 17 its prescaler's code
 unfoldable pub configOf : List ℕ → Config
 configOf l = record {
-  hse = hseOf (yes (at l 0)) (yes (at l 1)) (frequencyOf l);
+  hse = configHse (yes (at l 0)) (yes (at l 1)) (hseHzIn l);
   sys = at l 6;
-  «pll_src» = pllSourceOf (at l 7);
-  pll = pllOf (yes (at l 8)) (at l 9) (at l 10);
-  pllx = yes (at l 11);
+  «pll_src» = configPllSource (at l 7);
+  pll = configPll (yes (at l 8)) (at l 9) (at l 10);
+  pllx = configPllx (yes (at l 11));
   «ahb_pre» = at l 12;
   «apb1_pre» = at l 13;
   «apb2_pre» = at l 14;
   «hspll_src» = sourceOf (yes (at l 15));
-  hspll = hsPllOf (yes (at l 16)) (at l 17);
+  hspll = configHsPll (yes (at l 16)) (at l 17);
 }
 
 -- The PLL's bytes and those of USBHS: a source that there is, yes or no where that is asked, and an absent part's bytes zero
@@ -69,7 +74,7 @@ usbhsAllowed l = yesOrNo (at l 15) && yesOrNo (at l 16) && (yes (at l 16) || eqb
 
 -- so no configuration has two records
 unfoldable pub configAllowed : List ℕ → Bool
-configAllowed l = hseAllowed (at l 0) (at l 1) (frequencyOf l) && pllAllowed l && usbhsAllowed l
+configAllowed l = hseAllowed (at l 0) (at l 1) (hseHzIn l) && pllAllowed l && usbhsAllowed l
 
 unfoldable pub readConfig : List ℕ → Answer Config
 readConfig l = do
@@ -119,7 +124,7 @@ checkRead l = do
 unfoldable pub decodeRead : List ℕ → ℕ → Answer Clocks
 decodeRead l hz = do
   f ← readFields l
-  decodeOf f (hseNumber hz)
+  decodeOf f (decoderHse hz)
 
 -- The fields call, likewise: the configuration's record, then that of the earlier fields
 unfoldable pub initRead : List ℕ → List ℕ → Answer Fields

@@ -1,28 +1,30 @@
 -- Laws of the records of CH32V30x: a configuration has one, and the bytes that fields are given as are read as these fields.
 -- Assumes nothing.
 use Prim.Native.Nat.{ℕ, _<_}
-use mathlib.Core.Path.{_≡_, refl, sym, ap, _∙_}
-use mathlib.Core.Bool.{Bool, true, false, cond, not, _&&_, _||_}
+use mathlib.Core.Path.{_≡_, refl, sym}
+use mathlib.Core.Bool.{Bool, true, false, cond, _&&_, _||_}
 use mathlib.Core.List.{List, [], _∷_, _++_}
 use native.Mathlib.Omega.{arith}
-use borrow.Author.Tests.{leb-true, eqb-true, eqb-false, not-false}
+use borrow.Author.Tests.{leb-true, eqb-true, eqb-false}
 use lib.Dec.{eqb, leb}
-use lib.ListN.{length}
-use Rattle.answer.specs.Answer.{gives, passed}
+use Rattle.answer.specs.Answer.{gives}
 use Rattle.layout.specs.Bits.{bit}
 use Rattle.layout.proofs.Reading.{flag-of-bit}
-use Rattle.layout.proofs.Laws.{and-left, and-right}
+use Rattle.answer.specs.Tools.{and-left, and-right}
 use Rattle.v30x.specs.declared.PllSource.{PllSource}
 use Rattle.v30x.specs.declared.PllSource.the-variants as source
 use Rattle.v30x.specs.declared.Pll.{Pll}
 use Rattle.v30x.specs.declared.Pll.the-variants as pll
+use Rattle.v30x.specs.declared.Pllx.{Pllx}
+use Rattle.v30x.specs.declared.Pllx.the-variants as pllx
 use Rattle.v30x.specs.declared.HsPll.{HsPll}
 use Rattle.v30x.specs.declared.HsPll.the-variants as hspll
 use Rattle.v30x.specs.declared.Config.{Config}
 use Rattle.v30x.specs.declared.Fields.{Fields}
-use Rattle.capi_bytes.specs.Bytes.{at, yes, yesOrNo, frequencyOf, hseAllowed}
-use Rattle.capi_bytes.specs.Records.{listed, entries, same, said, said-as, bit-says, or-else, sourceByte, source-back, source-says, source-read, hseThere, hseBypass, hseHz, hseBytes, hse-back, hse-says, hse-read, frequency-read}
-use Rattle.capi_v30x.specs.Calls.{pllOf, hsPllOf, configOf, pllAllowed, usbhsAllowed, configAllowed, readConfig, readFields, bytesOf}
+use Rattle.v30x.specs.V30x.{pllxPresent}
+use Rattle.capi_pll32.specs.Bytes.{at, yes, yesOrNo, hseHzIn, hseAllowed}
+use Rattle.capi_pll32.specs.Records.{listed, same, said, said-as, three-said, read-of-one, bit-says, or-else, sourceByte, source-back, source-says, source-read, hseThere, hseBypass, hseHz, hseBytes, hse-back, hse-says, hse-read, hse-hz-read}
+use Rattle.capi_v30x.specs.Calls.{configPll, configPllx, configHsPll, configOf, pllAllowed, usbhsAllowed, configAllowed, readConfig, fieldsIn, fieldsAllowed, readFields, bytesOf}
 
 abbrev pub pllSourceByte : PllSource → ℕ
 pllSourceByte source.Hsi = 0
@@ -62,7 +64,7 @@ unfoldable pub configBytes : Config → List ℕ
 configBytes c =
     hseBytes (c .hse)
     ++ (c .sys ∷ pllSourceByte (c .«pll_src»)
-    ∷ (pllBytes (c .pll) ++ (bit (c .pllx) ∷ c .«ahb_pre» ∷ c .«apb1_pre» ∷ c .«apb2_pre» ∷ sourceByte (c .«hspll_src») ∷ hsPllBytes (c .hspll))))
+    ∷ (pllBytes (c .pll) ++ (bit (pllxPresent (c .pllx)) ∷ c .«ahb_pre» ∷ c .«apb1_pre» ∷ c .«apb2_pre» ∷ sourceByte (c .«hspll_src») ∷ hsPllBytes (c .hspll))))
 
 source-as : (x : ℕ) (t u : Bool) → eqb x 0 ≡ t → eqb x 1 ≡ u → leb x 2 ≡ true → pllSourceByte (cond t source.Hsi (cond u source.Hse source.Pll2)) ≡ x
 source-as x true u e q h = sym (eqb-true x 0 e)
@@ -74,7 +76,7 @@ source-as x false false e q h =
     omega (arith, k, not-0, not-1)
 
 pll-as : (p pre mul : ℕ) (t : Bool) → yes p ≡ t → yesOrNo p ≡ true → (yes p || eqb pre 0 && eqb mul 0) ≡ true →
-    pllBytes (pllOf t pre mul) ≡ p ∷ pre ∷ mul ∷ []
+    pllBytes (configPll t pre mul) ≡ p ∷ pre ∷ mul ∷ []
 unfolding pllBytes
 pll-as p pre mul true e h q = same (sym (eqb-true p 1 e)) refl
 pll-as p pre mul false e h q =
@@ -82,7 +84,14 @@ pll-as p pre mul false e h q =
     same (said-as p false e h)
     (same (sym (eqb-true pre 0 (and-left _ (eqb mul 0) none))) (same (sym (eqb-true mul 0 (and-right (eqb pre 0) _ none))) refl))
 
-hspll-as : (p pre : ℕ) (t : Bool) → yes p ≡ t → yesOrNo p ≡ true → (yes p || eqb pre 0) ≡ true → hsPllBytes (hsPllOf t pre) ≡ p ∷ pre ∷ []
+pllx-there : (t : Bool) → pllxPresent (configPllx t) ≡ t
+pllx-there true = refl
+pllx-there false = refl
+
+pllx-as : (x : ℕ) → yesOrNo x ≡ true → bit (pllxPresent (configPllx (yes x))) ≡ x
+pllx-as x h = rw (pllx-there (yes x)) (said x h)
+
+hspll-as : (p pre : ℕ) (t : Bool) → yes p ≡ t → yesOrNo p ≡ true → (yes p || eqb pre 0) ≡ true → hsPllBytes (configHsPll t pre) ≡ p ∷ pre ∷ []
 unfolding hsPllBytes
 hspll-as p pre true e h q = same (sym (eqb-true p 1 e)) refl
 hspll-as p pre false e h q = same (said-as p false e h) (same (sym (eqb-true pre 0 (or-else (yes p) _ e q))) refl)
@@ -91,18 +100,18 @@ hspll-as p pre false e h q = same (said-as p false e h) (same (sym (eqb-true pre
 back : (l : List ℕ) → ((i : ℕ) → at l i < 256) → configAllowed l ≡ true → configBytes (configOf l) ≡ listed (at l) 18
 unfolding configBytes configOf configAllowed
 back l small h =
-    let hse-pll = and-left (hseAllowed (at l 0) (at l 1) (frequencyOf l) && pllAllowed l) (usbhsAllowed l) h in
-    let pll-x : pllAllowed l ≡ true = and-right (hseAllowed (at l 0) (at l 1) (frequencyOf l)) (pllAllowed l) hse-pll in
+    let hse-pll = and-left (hseAllowed (at l 0) (at l 1) (hseHzIn l) && pllAllowed l) (usbhsAllowed l) h in
+    let pll-x : pllAllowed l ≡ true = and-right (hseAllowed (at l 0) (at l 1) (hseHzIn l)) (pllAllowed l) hse-pll in
     let pll-all = and-left _ (yesOrNo (at l 11)) pll-x in
     let source-pll = and-left (leb (at l 7) 2 && yesOrNo (at l 8)) _ pll-all in
-    let usbhs : usbhsAllowed l ≡ true = and-right (hseAllowed (at l 0) (at l 1) (frequencyOf l) && pllAllowed l) (usbhsAllowed l) h in
+    let usbhs : usbhsAllowed l ≡ true = and-right (hseAllowed (at l 0) (at l 1) (hseHzIn l) && pllAllowed l) (usbhsAllowed l) h in
     let hs-source = and-left (yesOrNo (at l 15) && yesOrNo (at l 16)) _ usbhs in
     rw (
       hse-back l small (and-left _ (pllAllowed l) hse-pll),
       source-as (at l 7) (eqb (at l 7) 0) (eqb (at l 7) 1) refl refl (and-left _ (yesOrNo (at l 8)) source-pll),
       pll-as (at l 8) (at l 9) (at l 10) (yes (at l 8)) refl (and-right (leb (at l 7) 2) _ source-pll)
           (and-right (leb (at l 7) 2 && yesOrNo (at l 8)) _ pll-all),
-      said (at l 11) (and-right (leb (at l 7) 2 && yesOrNo (at l 8) && (yes (at l 8) || eqb (at l 9) 0 && eqb (at l 10) 0)) _ pll-x),
+      pllx-as (at l 11) (and-right (leb (at l 7) 2 && yesOrNo (at l 8) && (yes (at l 8) || eqb (at l 9) 0 && eqb (at l 10) 0)) _ pll-x),
       source-back (at l 15) (and-left _ (yesOrNo (at l 16)) hs-source),
       hspll-as (at l 16) (at l 17) (yes (at l 16)) refl (and-right (yesOrNo (at l 15)) _ hs-source)
           (and-right (yesOrNo (at l 15) && yesOrNo (at l 16)) _ usbhs),
@@ -112,12 +121,7 @@ back l small h =
 -- a configuration that is read of a record has that record alone
 pub one-record : (l : List ℕ) → ((i : ℕ) → at l i < 256) → (c : Config) → readConfig l ≡ gives c → l ≡ configBytes c
 unfolding readConfig
-one-record l small c e =
-    let sized = passed 28 (not (eqb (length l) 18)) _ e in
-    let allowed = passed 28 (not (configAllowed l)) (gives (configOf l)) (sized .after) in
-    let long : length l ≡ 18 = eqb-true (length l) 18 (not-false (eqb (length l) 18) (sized .failed)) in
-    let read : configOf l ≡ c = cc (allowed .after) in
-    entries l ∙ ap (listed (at l)) long ∙ sym (back l small (not-false (configAllowed l) (allowed .failed))) ∙ ap configBytes read
+one-record l small c = read-of-one 18 l (configAllowed l) (configOf l) configBytes (back l small)
 
 pll-source-says : (s : PllSource) → leb (pllSourceByte s) 2 ≡ true
 pll-source-says source.Hsi = refl
@@ -133,15 +137,19 @@ pll-says : (p : Pll) → (yes (bit (pllThere p)) || eqb (pllLess p) 0 && eqb (pl
 pll-says pll.Absent = refl
 pll-says (pll.Present prediv mul) = refl
 
-pll-read : (p : Pll) → pllOf (yes (bit (pllThere p))) (pllLess p) (pllMul p) ≡ p
+pll-read : (p : Pll) → configPll (yes (bit (pllThere p))) (pllLess p) (pllMul p) ≡ p
 pll-read pll.Absent = refl
 pll-read (pll.Present prediv mul) = refl
+
+pllx-read : (p : Pllx) → configPllx (yes (bit (pllxPresent p))) ≡ p
+pllx-read pllx.Absent = refl
+pllx-read pllx.Present = refl
 
 hspll-says : (p : HsPll) → (yes (bit (hsPllThere p)) || eqb (hsPllLess p) 0) ≡ true
 hspll-says hspll.Absent = refl
 hspll-says (hspll.Present pre) = refl
 
-hspll-read : (p : HsPll) → hsPllOf (yes (bit (hsPllThere p))) (hsPllLess p) ≡ p
+hspll-read : (p : HsPll) → configHsPll (yes (bit (hsPllThere p))) (hsPllLess p) ≡ p
 hspll-read hspll.Absent = refl
 hspll-read (hspll.Present pre) = refl
 
@@ -150,19 +158,19 @@ pub config-read-back : (c : Config) → hseHz (c .hse) < 4294967296 → readConf
 unfolding readConfig configBytes hseBytes pllBytes hsPllBytes configAllowed configOf
 config-read-back c fits =
     rw (
-      frequency-read (bit (hseThere (c .hse))) (bit (hseBypass (c .hse))) (hseHz (c .hse)) _ fits,
+      hse-hz-read (bit (hseThere (c .hse))) (bit (hseBypass (c .hse))) (hseHz (c .hse)) _ fits,
       hse-says (c .hse),
       pll-source-says (c .«pll_src»),
       bit-says (pllThere (c .pll)),
       pll-says (c .pll),
-      bit-says (c .pllx),
+      bit-says (pllxPresent (c .pllx)),
       source-says (c .«hspll_src»),
       bit-says (hsPllThere (c .hspll)),
       hspll-says (c .hspll),
       hse-read (c .hse),
       pll-source-read (c .«pll_src»),
       pll-read (c .pll),
-      flag-of-bit (c .pllx),
+      pllx-read (c .pllx),
       source-read (c .«hspll_src»),
       hspll-read (c .hspll),
     )
@@ -181,3 +189,11 @@ fields-read-back f =
       flag-of-bit (f .hsipre),
     )
     refl
+
+-- and they alone are: a byte that says yes or no is 1 or 0
+pub fields-one-record : (l : List ℕ) (f : Fields) → readFields l ≡ gives f → l ≡ bytesOf f
+unfolding readFields
+fields-one-record l f =
+    read-of-one 9 l (fieldsAllowed l) (fieldsIn l) bytesOf (λ h.
+    let bits = three-said (at l 1) (at l 3) (at l 8) h in
+    rw (bits .0, bits .1, bits .2) refl)

@@ -1,11 +1,11 @@
 // CH32V30x for C: the check, the decoder, and the fields that starting a configuration leaves.
 ghost use mathlib.Core.Path.{_≡_};
 ghost use lib.ListN.{length};
-ghost use Rattle.pll32.specs.Pll.{accepted};
-ghost use Rattle.tree.specs.Tree.{running};
-ghost use Rattle.v30x.specs.V30x.{written};
-ghost use Rattle.lent.specs.Given.{Given, sixWords, sevenWords};
-ghost use Rattle.capi_v30x.specs.Calls.{pllSourceOf, pllOf, hsPllOf, configOf, pllAllowed, usbhsAllowed, configAllowed, readConfig, takenConfig, fieldsIn, fieldsAllowed, readFields, takenFields, bytesOf, fieldBytes, checkRead, decodeRead, initRead};
+ghost use Rattle.pll32.specs.Pll.{checkedSays};
+ghost use Rattle.tree.specs.Tree.{busesSays};
+ghost use Rattle.v30x.specs.V30x.{writtenSays};
+ghost use Rattle.capi_give.specs.Given.{Given, sixWords, sevenWords};
+ghost use Rattle.capi_v30x.specs.Calls.{configPllSource, configPll, configPllx, configHsPll, configOf, pllAllowed, usbhsAllowed, configAllowed, readConfig, takenConfigSays, fieldsIn, fieldsAllowed, readFields, takenFieldsSays, bytesOf, fieldBytes, checkRead, decodeRead, initRead};
 use pll32::Checked;
 use tree::Buses;
 use v30x::Config;
@@ -13,6 +13,7 @@ use v30x::Fields;
 use v30x::HsPll;
 use v30x::Pll;
 use v30x::PllSource;
+use v30x::Pllx;
 use v30x::Written;
 
 // Bytes of a configuration of CH32V30x.
@@ -33,7 +34,7 @@ pub enum TakenFields {
 }
 
 fn pll_source(b: u8) -> PllSource
-    ensures { λ r. ⌜ r ≡ pllSourceOf b ⌝ }
+    ensures { λ r. ⌜ r ≡ configPllSource b ⌝ }
 {
     if b == 0 {
         return PllSource::Hsi;
@@ -46,7 +47,7 @@ fn pll_source(b: u8) -> PllSource
 }
 
 fn pll(present: bool, prediv: u8, mul: u8) -> Pll
-    ensures { λ r. ⌜ r ≡ pllOf present prediv mul ⌝ }
+    ensures { λ r. ⌜ r ≡ configPll present prediv mul ⌝ }
 {
     if present {
         Pll::Present { prediv, mul }
@@ -55,8 +56,14 @@ fn pll(present: bool, prediv: u8, mul: u8) -> Pll
     }
 }
 
+fn pllx(present: bool) -> Pllx
+    ensures { λ r. ⌜ r ≡ configPllx present ⌝ }
+{
+    if present { Pllx::Present } else { Pllx::Absent }
+}
+
 fn hspll(present: bool, pre: u8) -> HsPll
-    ensures { λ r. ⌜ r ≡ hsPllOf present pre ⌝ }
+    ensures { λ r. ⌜ r ≡ configHsPll present pre ⌝ }
 {
     if present {
         HsPll::Present { pre }
@@ -70,11 +77,11 @@ fn config_of(b: &[u8]) -> Config
     ensures { λ r. ⌜ r ≡ configOf (now (b .entry)) ⌝ }
 {
     Config {
-        hse: capi_bytes::hse(b[0] == 1, b[1] == 1, capi_bytes::frequency(b)),
+        hse: capi_pll32::config_hse(b[0] == 1, b[1] == 1, capi_pll32::hse_hz(b)),
         sys: b[6],
         pll_src: pll_source(b[7]),
         pll: pll(b[8] == 1, b[9], b[10]),
-        pllx: b[11] == 1,
+        pllx: pllx(b[11] == 1),
         ahb_pre: b[12],
         apb1_pre: b[13],
         apb2_pre: b[14],
@@ -101,13 +108,11 @@ fn config_allowed(b: &[u8]) -> bool
     requires { ⌜ length (now b) ≡ 18 ⌝ }
     ensures { λ r. ⌜ r ≡ configAllowed (now (b .entry)) ⌝ }
 {
-    capi_bytes::hse_allowed(b[0], b[1], capi_bytes::frequency(b))
-        & pll_allowed(b)
-        & usbhs_allowed(b)
+    capi_pll32::hse_allowed(b[0], b[1], capi_pll32::hse_hz(b)) & pll_allowed(b) & usbhs_allowed(b)
 }
 
 fn take_config(b: &[u8]) -> TakenConfig
-    ensures { λ r. ⌜ takenConfig r ≡ readConfig (now (b .entry)) ⌝ }
+    ensures { λ r. ⌜ takenConfigSays r ≡ readConfig (now (b .entry)) ⌝ }
 {
     if b.len() != V30X_CONFIG_SIZE {
         return TakenConfig::Refused(answer::CODE_NOT_ALLOWED);
@@ -143,7 +148,7 @@ fn fields_allowed(b: &[u8]) -> bool
 }
 
 fn take_fields(b: &[u8]) -> TakenFields
-    ensures { λ r. ⌜ takenFields r ≡ readFields (now (b .entry)) ⌝ }
+    ensures { λ r. ⌜ takenFieldsSays r ≡ readFields (now (b .entry)) ⌝ }
 {
     if b.len() != V30X_FIELDS_SIZE {
         return TakenFields::Refused(answer::CODE_NOT_ALLOWED);
@@ -155,7 +160,7 @@ fn take_fields(b: &[u8]) -> TakenFields
 }
 
 fn check(config: &[u8]) -> Checked
-    ensures { λ r. ⌜ accepted r ≡ checkRead (now (config .entry)) ⌝ }
+    ensures { λ r. ⌜ checkedSays r ≡ checkRead (now (config .entry)) ⌝ }
 {
     match take_config(config) {
         TakenConfig::Refused(n) => Checked::Refused(n),
@@ -169,15 +174,15 @@ fn check(config: &[u8]) -> Checked
 pub extern "C" fn wontabeli_v30x_check(config: &[u8], out: &mut [u32]) -> u8
     ensures { λ r. ⌜ Given 7 (sevenWords (checkRead (now (config .entry)))) (now (out .entry)) (now (out .exit)) r ⌝ }
 {
-    lent::give_seven(capi_bytes::seven(check(config)), out)
+    capi_give::give_seven(capi_pll32::seven(check(config)), out)
 }
 
 fn decode(fields: &[u8], hse: u32) -> Buses
-    ensures { λ r. ⌜ running r ≡ decodeRead (now (fields .entry)) hse ⌝ }
+    ensures { λ r. ⌜ busesSays r ≡ decodeRead (now (fields .entry)) hse ⌝ }
 {
     match take_fields(fields) {
         TakenFields::Refused(n) => Buses::Refused(n),
-        TakenFields::Is(f) => v30x::decode(f, capi_bytes::hse_number(hse)),
+        TakenFields::Is(f) => v30x::decode(f, capi_pll32::decoder_hse(hse)),
     }
 }
 
@@ -187,11 +192,11 @@ fn decode(fields: &[u8], hse: u32) -> Buses
 pub extern "C" fn wontabeli_v30x_decode(fields: &[u8], hse: u32, out: &mut [u32]) -> u8
     ensures { λ r. ⌜ Given 6 (sixWords (decodeRead (now (fields .entry)) hse)) (now (out .entry)) (now (out .exit)) r ⌝ }
 {
-    lent::give_six(decode(fields, hse), out)
+    capi_give::give_six(decode(fields, hse), out)
 }
 
 fn init_fields(config: &[u8], earlier: &[u8]) -> Written
-    ensures { λ r. ⌜ written r ≡ initRead (now (config .entry)) (now (earlier .entry)) ⌝ }
+    ensures { λ r. ⌜ writtenSays r ≡ initRead (now (config .entry)) (now (earlier .entry)) ⌝ }
 {
     match take_config(config) {
         TakenConfig::Refused(n) => Written::Refused(n),
@@ -219,7 +224,7 @@ fn bytes(f: Fields) -> [u8; 9]
 }
 
 fn give_fields(fields: Written, out: &mut [u8]) -> u8
-    ensures { λ r. ⌜ Given 9 (fieldBytes (written fields)) (now (out .entry)) (now (out .exit)) r ⌝ }
+    ensures { λ r. ⌜ Given 9 (fieldBytes (writtenSays fields)) (now (out .entry)) (now (out .exit)) r ⌝ }
 {
     if out.len() < V30X_FIELDS_SIZE {
         return answer::OUTPUT_TOO_SHORT;
@@ -228,7 +233,7 @@ fn give_fields(fields: Written, out: &mut [u8]) -> u8
         Written::Refused(n) => n,
         Written::Is(f) => {
             let xs = bytes(f);
-            lent::give_bytes(&xs, out)
+            capi_give::give_bytes(&xs, out)
         }
     }
 }

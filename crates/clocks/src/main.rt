@@ -1,5 +1,5 @@
 // Reads a profile from standard input, and writes its lines, or the line of its refusal, to standard output.
-use report::Reported;
+use text::Put;
 
 // Reads on, and answers whether something came.
 fn read_on() -> bool {
@@ -19,8 +19,8 @@ fn drain() {
 
 // Writes the answer to an input. Every text has room: the seven lines take 125 bytes at most.
 fn answer(input: &[u8]) -> bool {
-    let mut out = [0u8; 128];
-    let Reported::Written(n) = report::report(input, &mut out) else {
+    let mut out = [0u8; 125];
+    let Put::At(n) = report::report(input, &mut out) else {
         return false;
     };
     io::write_all(1, &out[..n])

@@ -1,4 +1,4 @@
 pub mod Decode
 pub mod Queries
 pub mod QueryLaws
-pub mod Laid
+pub mod Order

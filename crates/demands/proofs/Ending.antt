@@ -4,13 +4,14 @@ use Prim.Native.Nat.{ℕ, _+_}
 use mathlib.Core.Path.{_≡_, refl, sym, ap, _∙_}
 use mathlib.Core.Bool.{Bool, true, false, cond, not, _&&_}
 use mathlib.Core.List.{List}
-use native.Mathlib.Omega.{arith}
 use borrow.Author.Tests.{eq-eqb, eqb-true}
 use lib.Dec.{eqb}
 use lib.ListN.{take}
-use Rattle.answer.specs.Answer.{Answer, gives, refuse, _>>_, bound, followed, passed}
+use Rattle.answer.specs.Answer.{Answer, gives, refuse, _>>_, bound, followed, passed, refuses-gives, same-given}
+use Rattle.divider.specs.declared.Frequency.{Frequency}
+use Rattle.divider.specs.Frequency.{whole}
 use Rattle.tree.specs.declared.Clocks.{Clocks}
-use Rattle.v4x7_rules.specs.Rules.{referenceCodeOf}
+use Rattle.v4x7_rules.specs.Rules.{hseInRange, usedHseOf, referenceCodeOf}
 use Rattle.v4x7.specs.declared.Hse.{Hse}
 use Rattle.v4x7.specs.declared.Hse.the-variants as hse
 use Rattle.v4x7.specs.declared.Pll.{Pll}
@@ -20,14 +21,14 @@ use Rattle.v4x7.specs.declared.HsPll.the-variants as hspll
 use Rattle.v4x7.specs.declared.AdcClockSource.{AdcClockSource}
 use Rattle.v4x7.specs.declared.AdcClockSource.the-variants as adc
 use Rattle.v4x7.specs.declared.Config.{Config}
-use Rattle.v4x7.specs.Check.{checkOf, neededOf, referenceOf, usbHsOf}
+use Rattle.v4x7.specs.Check.{checkOf, hasHse, hasUsbHs, hasMain, hseFrequencyOf, referenceOf, usbHsOf}
 use Rattle.image.specs.declared.Fields.{Fields}
 use Rattle.decoder.specs.Decode.{decodeOf}
-use Rattle.decoder.specs.Laid.{frequencyOf, PllLaid, HsPllLaid, Laid}
-use Rattle.decoder.proofs.Bridge.{laid-decodes}
-use Rattle.steps.specs.Writes.{withSeen, switch, gate, allOff, bypass, hseOn, ethOn, usbHsSource}
-use Rattle.steps.specs.Writes.{usbHsOn, mainSource, mainOn, fromUsbHs, adcDivisor, hseHz, reference, orZero, codeOf}
-use Rattle.steps.specs.Steps.{Entry, hasHse, hasUsbHs, hasMain, steps, sameClocks, isClocks, agreesOf}
+use Rattle.demands.specs.Laid.{PllLaid, HsPllLaid, Laid}
+use Rattle.demands.proofs.Bridge.{laid-decodes}
+use Rattle.startup.specs.Writes.{withSeen, switch, gate, allOff, bypass, hseOn, ethOn, usbHsSource}
+use Rattle.startup.specs.Writes.{usbHsOn, mainSource, mainOn, fromUsbHs, adcDivisor, hseHz, reference, orZero, codeOf}
+use Rattle.startup.specs.Steps.{Entry, steps, sameClocks, isClocks, agreesOf}
 use Rattle.startup.specs.declared.Reading.{Reading}
 use Rattle.startup.specs.Call.{seenOf, maskOf}
 use Rattle.demands.specs.Runs.{written}
@@ -90,33 +91,32 @@ main-keeps source pll.Absent f = refl
 main-keeps source (pll.Mul m) f = refl
 
 -- The reference that the check found is the one that step 13 has the code of.
-same-hz : {m n : ℕ} → _≡_ {A = Answer ℕ} (gives m) (gives n) → m ≡ n
-same-hz e = cc
+used-hz : (h : Hse) {x : Frequency} → usedHseOf (hseFrequencyOf h) ≡ gives x → hseHz h ≡ x .hz
+unfolding usedHseOf
+used-hz hse.Absent q = refuses-gives q
+used-hz (hse.Present byp f) q = ap (λ (x : Frequency). x .hz) (same-given (followed (hseInRange f) (gives (whole f)) q .after))
 
-needed-hz : (h : Hse) {hz : ℕ} → neededOf h ≡ gives hz → hseHz h ≡ hz
-needed-hz hse.Absent q = let z : _≡_ {A = ℕ} 0 1 = cc in absurd (omega arith)
-needed-hz (hse.Present byp f) q = same-hz q
-
-reference-is : (h : Hse) (eth : Bool) (s : ℕ) {hz : ℕ} → referenceOf h eth s ≡ gives hz → reference h s ≡ hz
+reference-is : (h : Hse) (eth : Bool) (s : ℕ) {x : Frequency} → referenceOf (hseFrequencyOf h) eth s ≡ gives x → reference h s ≡ x .hz
 unfolding referenceOf
-reference-is h eth s {hz} q = at (eqb s 0) q
+reference-is h eth s {x} q = at (eqb s 0) q
   where
-    at : (b : Bool) → cond b (neededOf h) (_>>_ (refuse 7 (eqb s 2 && not eth)) (gives 20000000)) ≡ gives hz → cond b (hseHz h) 20000000 ≡ hz
-    at true e = needed-hz h e
-    at false e = same-hz (passed 7 (eqb s 2 && not eth) (gives 20000000) e .after)
+    at : (b : Bool) → cond b (usedHseOf (hseFrequencyOf h)) (_>>_ (refuse 7 (eqb s 2 && not eth)) (gives (whole 20000000))) ≡ gives x →
+        cond b (hseHz h) 20000000 ≡ x .hz
+    at true e = used-hz h e
+    at false e = ap (λ (x : Frequency). x .hz) (same-given (passed 7 (eqb s 2 && not eth) (gives (whole 20000000)) e .after))
 
 usbhs-laid : (c : Config) (p : HsPll) (f g : Fields) → g .cfgr2 .usbhspllsrc ≡ usbHsOut (c .hse) p f .cfgr2 .usbhspllsrc →
-    g .cfgr2 .usbhspllclk ≡ usbHsOut (c .hse) p f .cfgr2 .usbhspllclk → usbHsOf (c .hse) (c .ethpll) p ≡ gives tt → HsPllLaid c p g
+    g .cfgr2 .usbhspllclk ≡ usbHsOut (c .hse) p f .cfgr2 .usbhspllclk → usbHsOf (hseFrequencyOf (c .hse)) (c .ethpll) p ≡ gives tt → HsPllLaid c p g
 unfolding usbHsOf
 usbhs-laid c hspll.Absent f g a b q = tt
 usbhs-laid c (hspll.From s) f g a b q =
-    let r = bound (referenceOf (c .hse) (c .ethpll) s) (λ hz. _>>_ (referenceCodeOf hz) (gives tt)) q in
-    let k = followed (referenceCodeOf (r .value)) (gives tt) (r .after) in
+    let r = bound (referenceOf (hseFrequencyOf (c .hse)) (c .ethpll) s) (λ x. _>>_ (referenceCodeOf (x .hz)) (gives tt)) q in
+    let k = followed (referenceCodeOf (r .value .hz)) (gives tt) (r .after) in
     let found = reference-is (c .hse) (c .ethpll) s (r .gave) in
     let code : codeOf (c .hse) s ≡ k .value = ap (λ (hz : ℕ). orZero (referenceCodeOf hz)) found ∙ ap orZero (k .gave) in (
       a,
-      λ hz e.
-          let is : hz ≡ r .value = sym (reference-is (c .hse) (c .ethpll) s e) ∙ found in
+      λ x e.
+          let is : x .hz ≡ r .value .hz = sym (reference-is (c .hse) (c .ethpll) s e) ∙ found in
           ap referenceCodeOf is ∙ k .gave ∙ ap gives (sym (b ∙ code)),
     )
 
@@ -196,9 +196,9 @@ module _ (c : Config) {x : Clocks × ℕ} (q : checkOf c ≡ gives x) (earlier :
 
   -- What holds at step 28.
   abbrev pub Ends : ℕ → Fields → Type 0
-  Ends k f = (k ≡ 28) × (f ≡ withSeen (written (steps c (x .0)) earlier) (f .seen)) × (decodeOf f (frequencyOf (c .hse)) ≡ gives (x .0))
+  Ends k f = (k ≡ 28) × (f ≡ withSeen (written (steps c (x .0)) earlier) (f .seen)) × (decodeOf f (hseFrequencyOf (c .hse)) ≡ gives (x .0))
 
-  decodes : (r : Reading) → eqb (seenOf r .sws) (c .sys) ≡ true → decodeOf (withSeen last (seenOf r)) (frequencyOf (c .hse)) ≡ gives (x .0)
+  decodes : (r : Reading) → eqb (seenOf r .sws) (c .sys) ≡ true → decodeOf (withSeen last (seenOf r)) (hseFrequencyOf (c .hse)) ≡ gives (x .0)
   decodes r e = laid-decodes c (withSeen last (seenOf r)) q (laid r e)
 
   agrees : (r : Reading) → eqb (seenOf r .sws) (c .sys) ≡ true → agreesOf c (x .0) (withSeen last (seenOf r)) ≡ true

@@ -1,16 +1,17 @@
 -- Each number of the first demand's lists is given: an input for each, and its definition computed.
 -- Assumes nothing.
 use Prim.Native.Nat.{ℕ}
-use mathlib.Core.Path.{_≡_, refl}
+use mathlib.Core.Path.{_≡_, refl, ap}
 use mathlib.Core.Bool.{Bool, true, false}
 use mathlib.Core.List.{List, [], _∷_, map}
 use native.Mathlib.Omega.{arith}
-use Rattle.answer.specs.Answer.{Answer, gives, refuses}
-use Rattle.divider.specs.Divide.{ahbOf, ahbDivisor, ahbDivisors, apbOf, apbDivisor, byAhbOf, byApbOf}
+use Rattle.answer.specs.Answer.{Answer, gives, refuses, _>>=_, _>>_, gives-refuses, same-refusal}
+use Rattle.divider.specs.Divide.{ahbOf, ahbDivisor, ahbDivisors, apbOf, apbDivisor, byAhbOf, apbQuotientOf}
+use Rattle.divider.specs.Frequency.{over}
 use Rattle.tree.specs.Tree.{clocksOf, belowOf, busOf, timerClock}
-use Rattle.v4x7_rules.specs.Rules.{hseOf, mainPllOf, ethPllOf, referenceCodeOf, sysPllOf, busesOf, adcFromHclkOf, adcFromUsbHsOf, totalOf}
-use Rattle.v4x7_rules.specs.declared.HseFrequency.{HseFrequency}
-use Rattle.v4x7_rules.specs.declared.HseFrequency.the-variants as frequency
+use Rattle.v4x7_rules.specs.Rules.{hseInRange, usedHseOf, mainPllInput, mainPllOf, ethPllOf, referenceCodeOf, twoThirds, sysPllOf, busesOf, adcFromHclkOf, adcFromUsbHsOf, totalOf}
+use Rattle.tree.specs.declared.HseFrequency.{HseFrequency}
+use Rattle.tree.specs.declared.HseFrequency.the-variants as frequency
 use Rattle.v4x7.specs.declared.Config.{Config}
 use Rattle.v4x7.specs.declared.Hse.{Hse}
 use Rattle.v4x7.specs.declared.Hse.the-variants as hse
@@ -20,17 +21,17 @@ use Rattle.v4x7.specs.declared.HsPll.{HsPll}
 use Rattle.v4x7.specs.declared.HsPll.the-variants as hspll
 use Rattle.v4x7.specs.declared.AdcClockSource.{AdcClockSource}
 use Rattle.v4x7.specs.declared.AdcClockSource.the-variants as adc
-use Rattle.v4x7.specs.Check.{named, rngOf, hsePresentOf, mainOf, ethOf, referenceOf, usbHsOf, sourcesOf, inputOf, sysclkOf}
+use Rattle.v4x7.specs.Check.{named, rngOf, hsePresentOf, mainOf, ethOf, referenceOf, usbHsOf, sourcesOf, sysPllInputOf, sysclkOf, systemOf}
 use Rattle.v4x7.specs.Check.{adcRatioOf, limitsOf, adcOf, checkOf}
 use Rattle.layout.specs.Bits.{bitsAt}
 use Rattle.profile.specs.Profile as profile
 use Rattle.image.specs.declared.Fields.{Fields}
 use Rattle.image.specs.Image as image
-use Rattle.decoder.specs.Decode.{usedOf, usbHsReferenceOf, usbHsPllOf, selectedOf, inUseOf, decodeOf}
+use Rattle.decoder.specs.Decode.{usbHsReferenceOf, usbHsPllOf, inUseOf, decodeOf}
+use Rattle.decoder.specs.Decode as decode
 use Rattle.decoder.specs.Queries.{adcQueryOf, rngQueryOf}
 use Rattle.startup.specs.Call.{startOf, going}
-use Rattle.demands.specs.First.{Refusing, EachGiven, writeOf, wide, decodeNumbers, checkGiven}
-use Rattle.demands.proofs.First.{stays}
+use Rattle.demands.specs.First.{Refusing, EachGiven, writeOf, decodeGiven, checkGiven}
 
 pub by : {I A : Type 0} {of : I → Answer A} {n : ℕ} (i : I) → of i ≡ refuses n → Refusing of n
 by i e = record { input = i; number = e }
@@ -73,9 +74,9 @@ abbrev xtal : ℕ → Hse
 xtal hz = hse.Present false hz
 
 pub checks : EachGiven checkOf checkGiven
-unfolding checkOf named sourcesOf rngOf hsePresentOf hseOf mainOf mainPllOf ethOf ethPllOf usbHsOf referenceOf referenceCodeOf sysclkOf inputOf
-    sysPllOf busesOf clocksOf belowOf busOf timerClock adcOf adcRatioOf limitsOf adcFromHclkOf adcFromUsbHsOf totalOf ahbOf ahbDivisor
-    ahbDivisors apbOf apbDivisor byAhbOf byApbOf
+unfolding checkOf named systemOf sourcesOf rngOf hsePresentOf hseInRange usedHseOf mainOf mainPllInput mainPllOf ethOf ethPllOf usbHsOf referenceOf
+    referenceCodeOf sysclkOf sysPllInputOf sysPllOf twoThirds busesOf clocksOf belowOf busOf timerClock adcOf adcRatioOf limitsOf adcFromHclkOf
+    adcFromUsbHsOf totalOf ahbOf ahbDivisor ahbDivisors apbOf apbDivisor byAhbOf apbQuotientOf over
 checks =
     let inputs : List Config =
     setup hse.Absent 3 0 pll.Absent 0 hspll.Absent false 0 adc.Hclk
@@ -118,9 +119,10 @@ fields sws pllsrc pllmul usbhssrc usbhsclk syspllsrc =
       flash = record { sckmod = 0; lock = false; flock = false };
     }
 
-pub decodes : EachGiven (λ (x : Fields × HseFrequency). decodeOf (x .0) (x .1)) decodeNumbers
-unfolding decodeOf image.inWidths inUseOf usedOf selectedOf usbHsPllOf usbHsReferenceOf hseOf mainPllOf ethPllOf referenceCodeOf sysPllOf busesOf
-    clocksOf belowOf busOf timerClock ahbOf ahbDivisor ahbDivisors apbOf apbDivisor byAhbOf byApbOf
+pub decodes : EachGiven (λ (x : Fields × HseFrequency). decodeOf (x .0) (x .1)) decodeGiven
+unfolding decodeOf image.inWidths inUseOf decode.sysPllInputOf usbHsPllOf usbHsReferenceOf hseInRange usedHseOf mainPllInput mainPllOf ethPllOf
+    referenceCodeOf sysPllOf twoThirds busesOf clocksOf belowOf busOf timerClock ahbOf ahbDivisor ahbDivisors apbOf apbDivisor byAhbOf
+    apbQuotientOf over
 decodes =
     let inputs : List (Fields × HseFrequency) =
     (fields 4 false 0 0 0 0, frequency.Absent)
@@ -135,10 +137,10 @@ decodes =
     ∷ (fields 2 false 0 0 0 4, frequency.Absent)
     ∷ (fields 2 false 0 1 1 0, frequency.Absent)
     ∷ [] in
-    by-row (λ x. decodeOf (x .0) (x .1)) inputs decodeNumbers refl
+    by-row (λ x. decodeOf (x .0) (x .1)) inputs decodeGiven refl
 
 pub read-profiles : EachGiven profile.readProfile (29 ∷ 30 ∷ [])
-unfolding profile.readProfile profile.tests profile.rawOf profile.hseFields profile.pllFields profile.busFields profile.adcFields
+unfolding profile.readProfile profile.tests
     bitsAt
 read-profiles = (by [] refl, (by (0 ∷ 0 ∷ 0 ∷ 0 ∷ 0 ∷ 0 ∷ 0 ∷ 0 ∷ 0 ∷ 1 ∷ []) refl, tt))
 
@@ -150,7 +152,7 @@ abbrev eight : List ℕ
 eight = 0 ∷ 0 ∷ 0 ∷ 0 ∷ 0 ∷ 0 ∷ 0 ∷ 0 ∷ []
 
 pub write-profiles : EachGiven (λ (x : Config × List ℕ). writeOf 10 (profile.profileBytes (x .0)) (x .1)) (32 ∷ 30 ∷ [])
-unfolding profile.profileBytes profile.writable profile.tests profile.restOf profile.rawFrom
+unfolding profile.profileBytes profile.writable profile.tests profile.restOf
 write-profiles = (
   by (setup hse.Absent 0 0 pll.Absent 0 hspll.Absent false 0 adc.Hclk, []) refl,
   (by (setup hse.Absent 3 0 pll.Absent 0 hspll.Absent false 0 adc.Hclk, 0 ∷ 0 ∷ eight) refl, tt),
@@ -160,13 +162,22 @@ pub write-images : EachGiven (λ (x : Fields × List ℕ). writeOf 8 (image.imag
 unfolding image.imageBytes image.inWidths
 write-images = (by (fields 0 false 0 0 0 0, []) refl, (by (fields 4 false 0 0 0 0, eight) refl, tt))
 
-pub adc-queries : EachGiven (λ (x : Fields × ℕ). adcQueryOf (x .0) (x .1)) wide
+pub adc-queries : EachGiven (λ (x : Fields × ℕ). adcQueryOf (x .0) (x .1)) (28 ∷ [])
 unfolding adcQueryOf image.inWidths
 adc-queries = (by (fields 4 false 0 0 0 0, 0) refl, tt)
 
-pub rng-queries : EachGiven (λ (x : Fields × ℕ). rngQueryOf (x .0) (x .1)) wide
+pub rng-queries : EachGiven (λ (x : Fields × ℕ). rngQueryOf (x .0) (x .1)) (28 ∷ [])
 unfolding rngQueryOf image.inWidths
 rng-queries = (by (fields 4 false 0 0 0 0, 0) refl, tt)
+
+-- a refusal isn't overtaken by what follows
+pub stays-bound : {A B : Type 0} (n : ℕ) (m : Answer A) (f : A → Answer B) → m ≡ refuses n → (_>>=_ m f) ≡ refuses n
+stays-bound n (gives a) f e = gives-refuses e
+stays-bound n (refuses k) f e = ap refuses (same-refusal e)
+
+stays : {A B : Type 0} (n : ℕ) (m : Answer A) (p : Answer B) → m ≡ refuses n → (_>>_ m p) ≡ refuses n
+stays n (gives a) p e = gives-refuses e
+stays n (refuses k) p e = ap refuses (same-refusal e)
 
 start-from : (n : ℕ) → Refusing checkOf n → Refusing (λ (x : Config × Fields). startOf (x .0) (x .1)) n
 unfolding startOf image.inWidths

@@ -6,12 +6,16 @@ use mathlib.Core.Bool.{Bool, true, false}
 use mathlib.Core.List.{List, [], _∷_}
 use Rattle.answer.specs.Answer.{gives}
 use Rattle.divider.specs.declared.Family.the-variants.{H4}
+use Rattle.divider.specs.declared.Frequency.{Frequency}
+use Rattle.divider.specs.Frequency.{whole, over}
 use Rattle.divider.specs.Divide.{ahbOf, apbOf, byAhbOf, byApbOf}
+use Rattle.tree.specs.declared.HseFrequency.{HseFrequency}
+use Rattle.tree.specs.declared.HseFrequency.the-variants as frequency
 use Rattle.pll32.specs.declared.Hse.{Hse}
 use Rattle.pll32.specs.declared.Hse.the-variants as hse
 use Rattle.pll32.specs.declared.Source.{Source}
 use Rattle.pll32.specs.declared.Source.the-variants as from
-use Rattle.pll32.specs.Pll.{factor, multipliedOf, outputOf, sysclkOf, finishedOf, readSysclkOf, decodedOf}
+use Rattle.pll32.specs.Pll.{factor, multipliedOf, pllOutputOf, sysclkOf, configuredClocksOf, decodedSysclkOf, decodedClocksOf}
 use Rattle.v1.specs.declared.Chip.{Chip}
 use Rattle.v1.specs.declared.Chip.the-variants.{V1}
 use Rattle.v1.specs.declared.PllPreDiv.the-variants.{Div1}
@@ -24,6 +28,8 @@ use Rattle.v30x.specs.declared.Pll as pll30
 use Rattle.v30x.specs.declared.Pll.the-variants as is30
 use Rattle.v30x.specs.declared.PllSource.{PllSource}
 use Rattle.v30x.specs.declared.PllSource.the-variants as source30
+use Rattle.v30x.specs.declared.Pllx.{Pllx}
+use Rattle.v30x.specs.declared.Pllx.the-variants as pllx
 use Rattle.v30x.specs.declared.HsPll.{HsPll}
 use Rattle.v30x.specs.declared.HsPll.the-variants as hspll
 use Rattle.v30x.specs.declared.Config as config30
@@ -31,9 +37,8 @@ use Rattle.v30x.specs.declared.Fields as in30
 use Rattle.v30x.specs.V30x as v30x
 use Rattle.h4.specs.declared.Prescale.{Prescale}
 use Rattle.h4.specs.H4.{pclkOf, doubledOf, prescaledOf}
-use Rattle.demands.specs.First.{Refusing, EachGiven, wide, checkNumbers1, checkNumbers30, Demand1Exact}
-use Rattle.demands.proofs.First.{stays-bound}
-use Rattle.demands.proofs.Given.{by, by-row, each-from, checks, starts, decodes, adc-queries, rng-queries}
+use Rattle.demands.specs.First.{Refusing, EachGiven, checkGiven1, checkGiven30, Demand1Exact}
+use Rattle.demands.proofs.Given.{by, by-row, each-from, stays-bound, checks, starts, decodes, adc-queries, rng-queries}
 use Rattle.demands.proofs.Given.{read-profiles, read-images, write-profiles, write-images}
 
 abbrev xtal : ℕ → Hse
@@ -44,8 +49,8 @@ xtal hz = hse.Present false hz
 abbrev setup1 : Hse → ℕ → Source → pll1.Pll → config1.Config
 setup1 h sys source p = record { hse = h; sys = sys; «pll_src» = source; pll = p; «ahb_pre» = 0; «apb1_pre» = 0; «apb2_pre» = 0 }
 
-checks1 : EachGiven (λ (x : Chip × config1.Config). v1.checkOf (x .0) (x .1)) checkNumbers1
-unfolding v1.checkOf v1.wideConfig v1.pllOf outputOf multipliedOf factor finishedOf sysclkOf
+checks1 : EachGiven (λ (x : Chip × config1.Config). v1.checkOf (x .0) (x .1)) checkGiven1
+unfolding v1.checkOf v1.wideConfig v1.configuredPllOf pllOutputOf multipliedOf factor over configuredClocksOf sysclkOf
 checks1 =
     let inputs : List (Chip × config1.Config) =
     (V1, setup1 hse.Absent 0 from.Hsi (is1.Present Div1 16))
@@ -54,7 +59,7 @@ checks1 =
     ∷ (V1, setup1 hse.Absent 3 from.Hsi is1.Absent)
     ∷ (V1, setup1 hse.Absent 2 from.Hsi is1.Absent)
     ∷ [] in
-    by-row (λ x. v1.checkOf (x .0) (x .1)) inputs checkNumbers1 refl
+    by-row (λ x. v1.checkOf (x .0) (x .1)) inputs checkGiven1 refl
 
 -- SWS, PLLSRC, PLLMUL
 abbrev fields1 : ℕ → Bool → ℕ → in1.Fields
@@ -67,24 +72,24 @@ fields-from1 n r =
     let f = fields1 0 false 0 in
     by (r .input .0, r .input .1, f) (stays-bound n (v1.checkOf (r .input .0) (r .input .1)) (λ x. gives (v1.writtenOf (r .input .1) f)) (r .number))
 
-writes1 : EachGiven (λ (x : Chip × config1.Config × in1.Fields). v1.fieldsOf (x .0) (x .1) (x .2)) checkNumbers1
+writes1 : EachGiven (λ (x : Chip × config1.Config × in1.Fields). v1.fieldsOf (x .0) (x .1) (x .2)) checkGiven1
 writes1 =
     each-from (λ (x : Chip × config1.Config). v1.checkOf (x .0) (x .1))
-    (λ (x : Chip × config1.Config × in1.Fields). v1.fieldsOf (x .0) (x .1) (x .2)) fields-from1 checkNumbers1 checks1
+    (λ (x : Chip × config1.Config × in1.Fields). v1.fieldsOf (x .0) (x .1) (x .2)) fields-from1 checkGiven1 checks1
 
-decodes1 : EachGiven (λ (x : Chip × in1.Fields × Hse). v1.decodeOf (x .0) (x .1) (x .2)) (28 ∷ 3 ∷ 24 ∷ [])
-unfolding v1.decodeOf v1.settingIn decodedOf readSysclkOf outputOf multipliedOf factor
+decodes1 : EachGiven (λ (x : Chip × in1.Fields × HseFrequency). v1.decodeOf (x .0) (x .1) (x .2)) (28 ∷ 3 ∷ 24 ∷ [])
+unfolding v1.decodeOf v1.settingIn decodedClocksOf decodedSysclkOf pllOutputOf multipliedOf factor over
 decodes1 =
-    let inputs : List (Chip × in1.Fields × Hse) =
-    (V1, fields1 4 false 0, hse.Absent)
-    ∷ (V1, fields1 1 false 0, hse.Absent)
-    ∷ (V1, fields1 2 true 15, xtal 268435456)
+    let inputs : List (Chip × in1.Fields × HseFrequency) =
+    (V1, fields1 4 false 0, frequency.Absent)
+    ∷ (V1, fields1 1 false 0, frequency.Absent)
+    ∷ (V1, fields1 2 true 15, frequency.Hz 268435456)
     ∷ [] in
     by-row (λ x. v1.decodeOf (x .0) (x .1) (x .2)) inputs (28 ∷ 3 ∷ 24 ∷ []) refl
 
 -- ---- V30x: HSE, system clock, PLL source, PLL, `pllx`, USBHS PLL from HSI; the prescalers at 1
 
-abbrev setup30 : Hse → ℕ → PllSource → pll30.Pll → Bool → HsPll → config30.Config
+abbrev setup30 : Hse → ℕ → PllSource → pll30.Pll → Pllx → HsPll → config30.Config
 setup30 h sys source p pllx usbhs =
     record {
       hse = h;
@@ -99,20 +104,20 @@ setup30 h sys source p pllx usbhs =
       hspll = usbhs;
     }
 
-checks30 : EachGiven v30x.checkOf checkNumbers30
-unfolding v30x.checkOf v30x.wideConfig v30x.sourcesOf v30x.pllOf v30x.fedOf v30x.usbhsOf outputOf multipliedOf factor finishedOf sysclkOf
+checks30 : EachGiven v30x.checkOf checkGiven30
+unfolding v30x.checkOf v30x.wideConfig v30x.sourcesOf v30x.configuredPllOf v30x.pllFromOscillatorOf v30x.usbhsOf pllOutputOf multipliedOf factor over configuredClocksOf sysclkOf
 checks30 =
     let inputs : List config30.Config =
-    setup30 hse.Absent 4 source30.Hsi is30.Absent false hspll.Absent
-    ∷ setup30 hse.Absent 0 source30.Hsi is30.Absent true hspll.Absent
-    ∷ setup30 hse.Absent 1 source30.Hsi is30.Absent false hspll.Absent
-    ∷ setup30 (xtal 330382100) 0 source30.Hse (is30.Present 0 13) false hspll.Absent
-    ∷ setup30 hse.Absent 0 source30.Hsi (is30.Present 2 0) false hspll.Absent
-    ∷ setup30 hse.Absent 0 source30.Hsi is30.Absent false (hspll.Present 2)
-    ∷ setup30 hse.Absent 3 source30.Hsi is30.Absent false hspll.Absent
-    ∷ setup30 hse.Absent 2 source30.Hsi is30.Absent false hspll.Absent
+    setup30 hse.Absent 4 source30.Hsi is30.Absent pllx.Absent hspll.Absent
+    ∷ setup30 hse.Absent 0 source30.Hsi is30.Absent pllx.Present hspll.Absent
+    ∷ setup30 hse.Absent 1 source30.Hsi is30.Absent pllx.Absent hspll.Absent
+    ∷ setup30 (xtal 330382100) 0 source30.Hse (is30.Present 0 13) pllx.Absent hspll.Absent
+    ∷ setup30 hse.Absent 0 source30.Hsi (is30.Present 2 0) pllx.Absent hspll.Absent
+    ∷ setup30 hse.Absent 0 source30.Hsi is30.Absent pllx.Absent (hspll.Present 2)
+    ∷ setup30 hse.Absent 3 source30.Hsi is30.Absent pllx.Absent hspll.Absent
+    ∷ setup30 hse.Absent 2 source30.Hsi is30.Absent pllx.Absent hspll.Absent
     ∷ [] in
-    by-row v30x.checkOf inputs checkNumbers30 refl
+    by-row v30x.checkOf inputs checkGiven30 refl
 
 -- SWS, PREDIV1SRC, PLLMUL; the PLL from HSE
 abbrev fields30 : ℕ → Bool → ℕ → in30.Fields
@@ -125,35 +130,35 @@ fields-from30 n r =
     let f = fields30 0 false 0 in
     by (r .input, f) (stays-bound n (v30x.checkOf (r .input)) (λ x. gives (v30x.writtenOf (r .input) f)) (r .number))
 
-writes30 : EachGiven (λ (x : config30.Config × in30.Fields). v30x.fieldsOf (x .0) (x .1)) checkNumbers30
-writes30 = each-from v30x.checkOf (λ (x : config30.Config × in30.Fields). v30x.fieldsOf (x .0) (x .1)) fields-from30 checkNumbers30 checks30
+writes30 : EachGiven (λ (x : config30.Config × in30.Fields). v30x.fieldsOf (x .0) (x .1)) checkGiven30
+writes30 = each-from v30x.checkOf (λ (x : config30.Config × in30.Fields). v30x.fieldsOf (x .0) (x .1)) fields-from30 checkGiven30 checks30
 
-decodes30 : EachGiven (λ (x : in30.Fields × Hse). v30x.decodeOf (x .0) (x .1)) (28 ∷ 27 ∷ 3 ∷ 24 ∷ [])
-unfolding v30x.decodeOf v30x.wideFields v30x.settingIn decodedOf readSysclkOf outputOf multipliedOf factor
+decodes30 : EachGiven (λ (x : in30.Fields × HseFrequency). v30x.decodeOf (x .0) (x .1)) (28 ∷ 27 ∷ 3 ∷ 24 ∷ [])
+unfolding v30x.decodeOf v30x.wideFields v30x.settingIn decodedClocksOf decodedSysclkOf pllOutputOf multipliedOf factor over
 decodes30 =
-    let inputs : List (in30.Fields × Hse) =
-    (fields30 4 false 0, hse.Absent)
-    ∷ (fields30 2 true 0, hse.Absent)
-    ∷ (fields30 2 false 0, hse.Absent)
-    ∷ (fields30 2 false 13, xtal 330382100)
+    let inputs : List (in30.Fields × HseFrequency) =
+    (fields30 4 false 0, frequency.Absent)
+    ∷ (fields30 2 true 0, frequency.Absent)
+    ∷ (fields30 2 false 0, frequency.Absent)
+    ∷ (fields30 2 false 13, frequency.Hz 330382100)
     ∷ [] in
     by-row (λ x. v30x.decodeOf (x .0) (x .1)) inputs (28 ∷ 27 ∷ 3 ∷ 24 ∷ []) refl
 
 -- ---- H4: HPRE 16, PPRE 8, multiplier 32
 
-clocks-4 : EachGiven (λ (x : ℕ × Prescale). prescaledOf (x .0) (x .1)) wide
+clocks-4 : EachGiven (λ (x : Frequency × Prescale). prescaledOf (x .0) (x .1)) (28 ∷ [])
 unfolding prescaledOf byAhbOf ahbOf
-clocks-4 = (by (0, record { hpre = 16; fpre = 0; ppre1 = 0; ppre2 = 0 }) refl, tt)
+clocks-4 = (by (whole 0, record { hpre = 16; fpre = 0; ppre1 = 0; ppre2 = 0 }) refl, tt)
 
-pclk-4 : EachGiven (λ (x : ℕ × ℕ). pclkOf (x .0) (x .1)) wide
+pclk-4 : EachGiven (λ (x : Frequency × ℕ). pclkOf (x .0) (x .1)) (28 ∷ [])
 unfolding pclkOf byApbOf apbOf
-pclk-4 = (by (0, 8) refl, tt)
+pclk-4 = (by (whole 0, 8) refl, tt)
 
-ahb-4 : EachGiven (λ (x : ℕ × ℕ). byAhbOf H4 (x .0) (x .1)) wide
+ahb-4 : EachGiven (λ (x : Frequency × ℕ). byAhbOf H4 (x .0) (x .1)) (28 ∷ [])
 unfolding byAhbOf ahbOf
-ahb-4 = (by (0, 16) refl, tt)
+ahb-4 = (by (whole 0, 16) refl, tt)
 
-doubled-4 : EachGiven doubledOf wide
+doubled-4 : EachGiven doubledOf (28 ∷ [])
 unfolding doubledOf
 doubled-4 = (by 32 refl, tt)
 

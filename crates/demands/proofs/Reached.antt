@@ -7,20 +7,21 @@ use mathlib.Core.List.{List}
 use lib.Count.{ones, onesIn}
 use lib.ListN.{drop}
 use Rattle.answer.specs.Answer.{gives}
-use Rattle.divider.specs.Divide.{ahbOf, ahbDivisor, ahbDivisors, apbOf, apbDivisor, byAhbOf, byApbOf}
+use Rattle.divider.specs.Divide.{ahbOf, ahbDivisor, ahbDivisors, apbOf, apbDivisor, byAhbOf, apbQuotientOf}
+use Rattle.divider.specs.Frequency.{over}
 use Rattle.tree.specs.declared.Clocks.{Clocks}
 use Rattle.tree.specs.Tree.{clocksOf, belowOf, busOf, timerClock}
-use Rattle.v4x7_rules.specs.Rules.{hseOf, mainPllOf, ethPllOf, referenceCodeOf, sysPllOf, busesOf, totalOf, adcFromHclkOf, adcFromUsbHsOf}
+use Rattle.v4x7_rules.specs.Rules.{hseInRange, usedHseOf, mainPllInput, mainPllOf, ethPllOf, referenceCodeOf, twoThirds, sysPllOf, busesOf, totalOf, adcFromHclkOf, adcFromUsbHsOf}
 use Rattle.v4x7.specs.declared.Hse.the-variants as hse
 use Rattle.v4x7.specs.declared.Pll.the-variants as pll
 use Rattle.v4x7.specs.declared.HsPll.the-variants as hspll
 use Rattle.v4x7.specs.declared.AdcClockSource.the-variants as adc
 use Rattle.v4x7.specs.declared.Config.{Config}
 use Rattle.v4x7.specs.Check.{checkOf, named, sourcesOf, rngOf, hsePresentOf, mainOf, ethOf}
-use Rattle.v4x7.specs.Check.{usbHsOf, referenceOf, sysclkOf, inputOf, adcRatioOf, limitsOf, adcOf}
+use Rattle.v4x7.specs.Check.{usbHsOf, referenceOf, sysPllInputOf, sysclkOf, systemOf, adcRatioOf, limitsOf, adcOf}
 use Rattle.image.specs.declared.Fields.{Fields}
 use Rattle.image.specs.Image.{inWidth, inWidths}
-use Rattle.steps.specs.Steps.{Entry, steps}
+use Rattle.startup.specs.Steps.{Entry, steps}
 use Rattle.startup.specs.declared.Reading.{Reading}
 use Rattle.startup.specs.declared.Phase.the-variants.{Going}
 use Rattle.startup.specs.declared.Startup.{Startup}
@@ -57,9 +58,10 @@ promised =
     record { sysclk = 200000000; hclk = 100000000; pclk1 = 100000000; pclk2 = 100000000; «pclk1_tim» = 100000000; «pclk2_tim» = 100000000 }
 
 pub accepted : checkOf busiest ≡ gives (promised, 7500000)
-unfolding checkOf named sourcesOf rngOf hsePresentOf hseOf mainOf mainPllOf ethOf ethPllOf usbHsOf referenceOf referenceCodeOf sysclkOf inputOf
+unfolding checkOf named systemOf sourcesOf rngOf hsePresentOf hseInRange usedHseOf mainOf mainPllInput mainPllOf ethOf ethPllOf usbHsOf referenceOf
+    referenceCodeOf sysclkOf sysPllInputOf twoThirds
     sysPllOf busesOf clocksOf belowOf busOf timerClock adcOf adcRatioOf limitsOf adcFromHclkOf adcFromUsbHsOf totalOf ahbOf ahbDivisor
-    ahbDivisors apbOf apbDivisor byAhbOf byApbOf
+    ahbDivisors apbOf apbDivisor byAhbOf apbQuotientOf over
 accepted = refl
 
 -- All fields clear.
@@ -117,5 +119,5 @@ reaches rd n e g = (
 
 pub reached : Reached
 reached =
-    let x = slow 999999 dark busiest P P 1 0 clear readings refl (bounds busiest promised .1) in
+    let x = slow 999999 dark busiest P P 0 refl 0 clear readings (bounds busiest promised .1) in
     reaches (slowest 999999 dark P readings) (x .0) (x .1) (x .2)

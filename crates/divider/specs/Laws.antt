@@ -1,20 +1,24 @@
 -- Laws of the divisors, shown once over family and code. Callers use them in place of the tables.
 -- Assumes nothing.
-use mathlib.Core.Path.{_≡_, refl, subst}
-use mathlib.Core.Bool.{Bool, false}
+use mathlib.Core.Path.{_≡_, refl, ap}
+use mathlib.Core.Bool.{Bool}
 use mathlib.Core.List.{List, [], _∷_}
 use Prim.Native.Nat.{ℕ, _<_, _≤_, _*_, _/_, _%_, _^_}
 use native.Mathlib.Omega.{arith}
-use native.Mathlib.Nat.{mul-div-le, mul-le-mul-right, le-trans, div-le-self}
+use native.Mathlib.Nat.{mul-div-le, mul-le-mul-right, le-trans}
 use borrow.Author.Tests.{leb-false}
 use lib.Dec.{T, leb, leb→le}
 use lib.ListN.{getD, length}
-use Rattle.answer.specs.Answer.{Answer, gives, refuse, _>>=_, _>>_, bound, passed}
+use Rattle.answer.specs.Answer.{Answer, gives, refuses, _>>=_, _>>_}
+use Rattle.answer.specs.Each.{Each, each-gives, each-past, each-bind, each-at}
+use Rattle.answer.specs.Order.{OrElse, else-gives, else-known, else-past, else-bind}
 use Rattle.divider.specs.declared.Family.{Family}
 use Rattle.divider.specs.declared.Family.the-variants.{V4x7, V1, V30x, H4}
-use Rattle.divider.specs.Divide.{ahbDivisor, ahbDivisors, apbDivisor, fpreDivisor, ahbOf, apbOf, byAhbOf, byApbOf}
+use Rattle.divider.specs.Divide.{ahbDivisor, ahbDivisors, apbDivisor, fpreDivisor, ahbOf, apbOf, byAhbOf, byApbOf, apbQuotientOf}
 use Rattle.divider.specs.Table.{both, both-left, both-right, every, at}
 use Rattle.divider.specs.Facts.{Between}
+use Rattle.divider.specs.declared.Frequency.{Frequency}
+use Rattle.divider.specs.Frequency.{over}
 
 -- s is the shift that divides by d
 pub record ShiftFor (d s : ℕ) : Type 0 where
@@ -46,52 +50,62 @@ unfolding within apbDivisor
 apb-between = entry 16 (1 ∷ 1 ∷ 1 ∷ 1 ∷ 2 ∷ 4 ∷ 8 ∷ 16 ∷ []) tt
 
 pub fpre-between : (c : ℕ) → Between 4 (fpreDivisor c)
-unfolding within
+unfolding within fpreDivisor
 fpre-between c = entry 4 (1 ∷ 2 ∷ 4 ∷ 4 ∷ []) tt (c % 4) (omega arith)
 
 -- what a code gives is a divisor
-given : {top d e : ℕ} (wide : Bool) → (wide ≡ false → Between top d) → _>>_ (refuse 28 wide) (gives d) ≡ gives e → Between top e
-given {top} {d} {e} wide h q =
-    let p = passed 28 wide (gives d) q in
-    let same : d ≡ e = cc (p .after) in
-    subst (Between top) same (h (p .failed))
+
+pub ahb-each : (f : Family) (c : ℕ) → Each (Between 512) (ahbOf f c)
+unfolding ahbOf
+ahb-each f c = each-past 28 (leb 16 c) (λ e. each-gives (ahb-between f c (leb-false 16 c e)))
+
+pub apb-each : (c : ℕ) → Each (Between 16) (apbOf c)
+unfolding apbOf
+apb-each c = each-past 28 (leb 8 c) (λ e. each-gives (apb-between c (leb-false 8 c e)))
 
 pub ahb-given : (f : Family) (c : ℕ) {d : ℕ} → ahbOf f c ≡ gives d → Between 512 d
-unfolding ahbOf
-ahb-given f c q = given (leb 16 c) (λ e. ahb-between f c (leb-false 16 c e)) q
+ahb-given f c = each-at (ahb-each f c)
 
 pub apb-given : (c : ℕ) {d : ℕ} → apbOf c ≡ gives d → Between 16 d
+apb-given c = each-at (apb-each c)
+
+-- a code's divisor by the list of its refusals: too wide, else the table's
+pub ahb-else : (f : Family) (c : ℕ) → OrElse ((28, leb 16 c) ∷ []) (ahbDivisor f c) (ahbOf f c)
+unfolding ahbOf
+ahb-else f c = else-past 28 (leb 16 c) (λ e. else-gives)
+
+pub apb-else : (c : ℕ) → OrElse ((28, leb 8 c) ∷ []) (apbDivisor c) (apbOf c)
 unfolding apbOf
-apb-given c q = given (leb 8 c) (λ e. apb-between c (leb-false 8 c e)) q
+apb-else c = else-past 28 (leb 8 c) (λ e. else-gives)
 
--- a frequency divided is its quotient by the code's divisor
-pub by-apb-is : (hz c : ℕ) → byApbOf hz c ≡ (_>>=_ (apbOf c) (λ d. gives (hz / d)))
-unfolding byApbOf
-by-apb-is hz c = refl
-
-by-apb-given : (hz c : ℕ) {d q : ℕ} → apbOf c ≡ gives d → byApbOf hz c ≡ gives q → hz / d ≡ q
-unfolding byApbOf
-by-apb-given hz c {d} {q} given quotient =
-    let b = bound (apbOf c) (λ d. gives (hz / d)) quotient in
-    let same : b .value ≡ d = cc (b .gave) in
-    cc (b .after)
-
--- a quotient is at most what was divided
-at-most : {hz q : ℕ} (m : Answer ℕ) → (_>>=_ m (λ d. gives (hz / d))) ≡ gives q → q ≤ hz
-at-most {hz} {q} m quotient =
-    let b = bound m (λ d. gives (hz / d)) quotient in
-    let same : hz / b .value ≡ q = cc (b .after) in
-    subst (λ (x : ℕ). x ≤ hz) same (div-le-self hz (b .value))
-
-pub by-ahb-at-most : (f : Family) (hz c : ℕ) {q : ℕ} → byAhbOf f hz c ≡ gives q → q ≤ hz
+pub by-ahb-else : (f : Family) (x : Frequency) (c : ℕ) → OrElse ((28, leb 16 c) ∷ []) (over x (ahbDivisor f c)) (byAhbOf f x c)
 unfolding byAhbOf
-by-ahb-at-most f hz c = at-most (ahbOf f c)
+by-ahb-else f x c = else-bind (ahb-else f c) (λ d e. else-known (ap (over x) e))
 
-pub by-apb-at-most : (hz c : ℕ) {q : ℕ} → byApbOf hz c ≡ gives q → q ≤ hz
+pub by-apb-else : (x : Frequency) (c : ℕ) → OrElse ((28, leb 8 c) ∷ []) (over x (apbDivisor c)) (byApbOf x c)
 unfolding byApbOf
-by-apb-at-most hz c = at-most (apbOf c)
+by-apb-else x c = else-bind (apb-else c) (λ d e. else-known (ap (over x) e))
 
--- twice a quotient fits where the divisor isn't 1
-pub by-apb-twice : (hz c : ℕ) {d q : ℕ} → apbOf c ≡ gives d → byApbOf hz c ≡ gives q → 2 ≤ d → 2 * q ≤ hz
-by-apb-twice hz c {d} given quotient two =
-    subst (λ (n : ℕ). 2 * n ≤ hz) (by-apb-given hz c given quotient) (le-trans (mul-le-mul-right (hz / d) two) (mul-div-le hz d))
+pub apb-quotient-else : (x : Frequency) (c : ℕ) → OrElse ((28, leb 8 c) ∷ []) (apbDivisor c, over x (apbDivisor c)) (apbQuotientOf x c)
+unfolding apbQuotientOf
+apb-quotient-else x c = else-bind (apb-else c) (λ d e. else-known (ap (λ (n : ℕ). (n, over x n)) e))
+
+-- an APB quotient is the same with its divisor and without
+alike : (x : Frequency) (m : Answer ℕ) →
+    (_>>=_ m (λ d. gives (over x d))) ≡ (_>>=_ (_>>=_ m (λ d. gives (d, over x d))) (λ (q : ℕ × Frequency). gives (q .1)))
+alike x (gives d) = refl
+alike x (refuses n) = refl
+
+pub by-apb-quotient : (x : Frequency) (c : ℕ) → byApbOf x c ≡ (_>>=_ (apbQuotientOf x c) (λ (q : ℕ × Frequency). gives (q .1)))
+unfolding byApbOf apbQuotientOf
+by-apb-quotient x c = alike x (apbOf c)
+
+-- where the divisor isn't 1, twice the quotient is at most what was divided
+twice : (x : Frequency) (c : ℕ) → Each (λ (q : ℕ × Frequency). (q .0 ≡ 1 → ⊥) → 2 * q .1 .hz ≤ x .hz) (apbQuotientOf x c)
+unfolding apbQuotientOf over
+twice x c =
+    each-bind (apb-each c) (λ d h. each-gives (λ more.
+    le-trans (mul-le-mul-right (x .hz / d) (omega (arith, more, h .low))) (mul-div-le (x .hz) d)))
+
+pub quotient-twice : (x : Frequency) (c : ℕ) {d : ℕ} {q : Frequency} → apbQuotientOf x c ≡ gives (d, q) → (d ≡ 1 → ⊥) → 2 * q .hz ≤ x .hz
+quotient-twice x c = each-at (twice x c)

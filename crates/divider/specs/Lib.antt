@@ -1,4 +1,5 @@
 pub mod Facts
+pub mod Frequency
 pub mod Divide
 pub mod Table
 pub mod Laws

@@ -1,2 +1,3 @@
 pub mod H4
 pub mod Laws
+pub mod Order

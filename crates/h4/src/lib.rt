@@ -1,14 +1,15 @@
 // CH32H4: AHB, HCLK and PCLK by their codes, the PLL's multipliers, and the clocks of one configuration.
 ghost use mathlib.Core.Path.{_≡_};
-ghost use Prim.Native.Nat.{_/_};
-ghost use Rattle.answer.specs.Said.{replied};
+ghost use Rattle.answer.specs.Said.{replySays};
 ghost use Rattle.divider.specs.declared.Family.the-variants.{H4};
 ghost use Rattle.divider.specs.Divide.{fpreDivisor, byAhbOf};
-ghost use Rattle.tree.specs.Tree.{onBus};
-ghost use Rattle.h4.specs.H4.{pclkOf, doubledOf, prescaledOf, prescaled};
+ghost use Rattle.divider.specs.Frequency.{rateSays, over};
+ghost use Rattle.tree.specs.Tree.{busSays};
+ghost use Rattle.h4.specs.H4.{pclkOf, doubledOf, prescaledOf, prescaledSays};
 use answer::Reply;
-use answer::refusal;
 use divider::Family;
+use divider::Frequency;
+use divider::Rate;
 use tree::Bus;
 use tree::Buses;
 use tree::Clocks;
@@ -64,32 +65,32 @@ const PLL_MUL_X2: [u32; 32] = [
 ];
 
 // The AHB clock, after HPRE.
-pub fn ahb_from_sysclk(sysclk: u32, hpre: u8) -> Reply
-    ensures { λ r. ⌜ replied r ≡ byAhbOf H4 sysclk hpre ⌝ }
+pub fn ahb_from_sysclk(sysclk: Frequency, hpre: u8) -> Rate
+    ensures { λ r. ⌜ rateSays r ≡ byAhbOf H4 sysclk hpre ⌝ }
 {
     divider::by_ahb(Family::H4, sysclk, hpre)
 }
 
 // HCLK, the V3F control core's clock, after FPRE.
-pub fn hclk_from_ahb(ahb: u32, fpre: u8) -> u32
-    ensures { λ r. ⌜ r ≡ ahb / fpreDivisor fpre ⌝ }
+pub fn hclk_from_ahb(ahb: Frequency, fpre: u8) -> Frequency
+    ensures { λ r. ⌜ r ≡ over ahb (fpreDivisor fpre) ⌝ }
 {
     divider::by_fpre(ahb, fpre)
 }
 
 // A bus: PCLK after PPRE, and its timers' clock, which is PCLK.
-pub fn pclk_from_hclk(hclk: u32, ppre: u8) -> Bus
-    ensures { λ r. ⌜ onBus r ≡ pclkOf hclk ppre ⌝ }
+pub fn pclk_from_hclk(hclk: Frequency, ppre: u8) -> Bus
+    ensures { λ r. ⌜ busSays r ≡ pclkOf hclk ppre ⌝ }
 {
     match divider::by_apb(hclk, ppre) {
-        Reply::Refused(n) => Bus::Refused(n),
-        Reply::Is(pclk) => Bus::Run { pclk, tim: pclk },
+        Rate::Refused(n) => Bus::Refused(n),
+        Rate::At(pclk) => Bus::Run { pclk, tim: pclk.hz },
     }
 }
 
 // The PLL's multiplier at a position, doubled.
 pub fn pll_mul_x2(position: u8) -> Reply
-    ensures { λ r. ⌜ replied r ≡ doubledOf position ⌝ }
+    ensures { λ r. ⌜ replySays r ≡ doubledOf position ⌝ }
 {
     if 32 <= position {
         return Reply::Refused(answer::CODE_NOT_ALLOWED);
@@ -98,16 +99,19 @@ pub fn pll_mul_x2(position: u8) -> Reply
 }
 
 // The clocks of a SYSCLK and one configuration.
-pub fn clocks_from_sysclk(sysclk: u32, prescale: Prescale) -> Prescaled
-    ensures { λ r. ⌜ prescaled r ≡ prescaledOf sysclk prescale ⌝ }
+pub fn clocks_from_sysclk(sysclk: Frequency, prescale: Prescale) -> Prescaled
+    ensures { λ r. ⌜ prescaledSays r ≡ prescaledOf sysclk prescale ⌝ }
 {
     let divided = ahb_from_sysclk(sysclk, prescale.hpre);
-    let Reply::Is(ahb) = divided else {
-        return Prescaled::Refused(refusal(divided));
+    let Rate::At(ahb) = divided else {
+        return Prescaled::Refused(divider::refusal(divided));
     };
     let hclk = hclk_from_ahb(ahb, prescale.fpre);
     match tree::below_hclk(Family::H4, sysclk, hclk, prescale.ppre1, prescale.ppre2) {
         Buses::Refused(n) => Prescaled::Refused(n),
-        Buses::Run(clocks) => Prescaled::Run { ahb, clocks },
+        Buses::Run(clocks) => Prescaled::Run {
+            ahb: ahb.hz,
+            clocks,
+        },
     }
 }

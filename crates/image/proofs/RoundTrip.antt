@@ -10,18 +10,18 @@ use lib.ListN.{length, take, drop}
 use Rattle.answer.specs.Answer.{gives}
 use Rattle.answer.specs.declared.Outcome.{Outcome}
 use Rattle.answer.specs.declared.Outcome.the-variants.{Done}
-use Rattle.layout.specs.Layout.{unpack, fitting, Bytes}
+use Rattle.layout.specs.Layout.{unpack, fitting, packed, Bytes}
 use Rattle.layout.specs.Codec.{Inverse}
 use Rattle.layout.specs.Lent.{Wrote}
 use Rattle.layout.proofs.Laws.{fitting-unpack}
 use Rattle.layout.proofs.Reading.{flag-of-bit, bit-of-flag}
 use Rattle.layout.proofs.RoundTrip as layout
 use Rattle.image.specs.declared.Fields.{Fields}
-use Rattle.image.specs.Image.{widths, ctlrOf, seenOf, cfgr0Of, cfgr2Of, cfgr3Of, flashOf, fieldsOf, zeroFilled, listOf, inWidth, readImage, imageBytes}
+use Rattle.image.specs.Image.{widths, fieldsOf, zeroFilled, listOf, inWidth, readImage, imageBytes}
 use Rattle.image.proofs.Widths.{in-width}
 
 of-list : (f : Fields) → fieldsOf (listOf f) ≡ f
-unfolding fieldsOf ctlrOf seenOf cfgr0Of cfgr2Of cfgr3Of flashOf listOf
+unfolding fieldsOf listOf
 of-list f = simp flag-of-bit
 
 fit : (f : Fields) → inWidth f ≡ true → (fitting widths (listOf f) ≡ true) × (zeroFilled (listOf f) ≡ true)
@@ -29,7 +29,7 @@ unfolding listOf
 fit f h = (sym (in-width f) ∙ h, refl)
 
 list-of : (v : ℕ) → zeroFilled (unpack widths v) ≡ true → listOf (fieldsOf (unpack widths v)) ≡ unpack widths v
-unfolding fieldsOf ctlrOf seenOf cfgr0Of cfgr2Of cfgr3Of flashOf listOf
+unfolding fieldsOf listOf
 list-of v h =
     let z : v % 32 ≡ 0 = ap (λ (n : ℕ). n % 32) (sym (div-one v)) ∙ eqb-true (v / 1 % 32) 0 h in
     simp (bit-of-flag, div-one, z)
@@ -43,6 +43,11 @@ back v h =
 pub inverse : Inverse 8 readImage imageBytes
 unfolding readImage imageBytes
 inverse = layout.inverse 8 widths refl zeroFilled fieldsOf inWidth listOf of-list fit back 31 31 28
+
+-- fields that were read are in width: no call refuses them by 28
+pub read-in-width : (s : List ℕ) (f : Fields) → Bytes s → readImage s ≡ gives f → inWidth f ≡ true
+unfolding imageBytes
+read-in-width s f b e = layout.passed 28 (inWidth f) (gives (packed 8 widths (listOf f))) s (inverse .write-read s f b e) .0
 
 -- Of the calls: fields written and read again are the same, and bytes read and written again are the same.
 pub read-after-write : (f : Fields) (l l′ : List ℕ) → Wrote 8 (imageBytes f) l l′ Done → readImage (take 8 l′) ≡ gives f

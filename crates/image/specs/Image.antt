@@ -14,7 +14,6 @@ use Rattle.image.specs.declared.Ctlr.{Ctlr}
 use Rattle.image.specs.declared.Seen.{Seen}
 use Rattle.image.specs.declared.Cfgr0.{Cfgr0}
 use Rattle.image.specs.declared.Cfgr2.{Cfgr2}
-use Rattle.image.specs.declared.Cfgr3.{Cfgr3}
 use Rattle.image.specs.declared.Flash.{Flash}
 use Rattle.image.specs.declared.Fields.{Fields}
 use Rattle.image.specs.declared.ReadImage.{ReadImage}
@@ -34,7 +33,7 @@ widths =
 
 -- ---- fields of a list, by their place in it
 
-unfoldable pub ctlrOf : List ℕ → Ctlr
+abbrev pub ctlrOf : List ℕ → Ctlr
 ctlrOf l = record {
   hsion = eqb (getD l 0 0) 1;
   hsebyp = eqb (getD l 1 0) 1;
@@ -45,7 +44,7 @@ ctlrOf l = record {
   «eth_pllon» = eqb (getD l 6 0) 1;
 }
 
-unfoldable pub seenOf : List ℕ → Seen
+abbrev pub seenOf : List ℕ → Seen
 seenOf l = record {
   hsirdy = eqb (getD l 7 0) 1;
   hserdy = eqb (getD l 8 0) 1;
@@ -55,7 +54,7 @@ seenOf l = record {
   sws = getD l 12 0;
 }
 
-unfoldable pub cfgr0Of : List ℕ → Cfgr0
+abbrev pub cfgr0Of : List ℕ → Cfgr0
 cfgr0Of l = record {
   sw = getD l 13 0;
   pllsrc = eqb (getD l 14 0) 1;
@@ -68,7 +67,7 @@ cfgr0Of l = record {
   «adc_duty» = getD l 21 0;
 }
 
-unfoldable pub cfgr2Of : List ℕ → Cfgr2
+abbrev pub cfgr2Of : List ℕ → Cfgr2
 cfgr2Of l = record {
   usbhspllsrc = getD l 22 0;
   usbhspllclk = getD l 23 0;
@@ -79,14 +78,11 @@ cfgr2Of l = record {
   i2spllsrc = eqb (getD l 28 0) 1;
 }
 
-unfoldable pub cfgr3Of : List ℕ → Cfgr3
-cfgr3Of l = record { «adc_clkdiv» = getD l 29 0 }
-
-unfoldable pub flashOf : List ℕ → Flash
+abbrev pub flashOf : List ℕ → Flash
 flashOf l = record { sckmod = getD l 30 0; lock = eqb (getD l 31 0) 1; flock = eqb (getD l 32 0) 1 }
 
 unfoldable pub fieldsOf : List ℕ → Fields
-fieldsOf l = record { ctlr = ctlrOf l; seen = seenOf l; cfgr0 = cfgr0Of l; cfgr2 = cfgr2Of l; cfgr3 = cfgr3Of l; flash = flashOf l }
+fieldsOf l = record { ctlr = ctlrOf l; seen = seenOf l; cfgr0 = cfgr0Of l; cfgr2 = cfgr2Of l; cfgr3 = record { «adc_clkdiv» = getD l 29 0 }; flash = flashOf l }
 
 -- are the five bits after the fields zero?
 abbrev pub zeroFilled : List ℕ → Bool
@@ -137,19 +133,19 @@ imageBytes f = do
   gives (packed 8 widths (listOf f))
 
 -- a `ReadImage`: its fields, or its refusal
-abbrev pub imageRead : ReadImage → Answer Fields
-imageRead (Image f) = gives f
-imageRead (Refused n) = refuses n
+abbrev pub readImageSays : ReadImage → Answer Fields
+readImageSays (Image f) = gives f
+readImageSays (Refused n) = refuses n
 
 -- Nothing is left open: a reading is settled by what it says. (The writer's answer and bytes are settled by `wrote-settled`.)
 said : Answer Fields → ReadImage
 said (gives f) = Image f
 said (refuses n) = Refused n
 
-said-again : (r : ReadImage) → said (imageRead r) ≡ r
+said-again : (r : ReadImage) → said (readImageSays r) ≡ r
 unfolding said
 said-again (Image f) = refl
 said-again (Refused n) = refl
 
-pub read-settled : (r s : ReadImage) → imageRead r ≡ imageRead s → r ≡ s
-read-settled = settled-by imageRead said said-again
+pub read-settled : (r s : ReadImage) → readImageSays r ≡ readImageSays s → r ≡ s
+read-settled = settled-by readImageSays said said-again

@@ -1,9 +1,8 @@
 // The register fields that the clocks depend on, and their image of eight bytes.
 use answer::Outcome;
 ghost use mathlib.Core.Path.{_≡_};
-ghost use Rattle.layout.specs.Bits.{cut};
 ghost use Rattle.layout.specs.Lent.{Wrote};
-ghost use Rattle.image.specs.Image.{widths, ctlrOf, seenOf, cfgr0Of, cfgr2Of, cfgr3Of, flashOf, fieldsOf, listOf, inWidth, imageRead, readImage, imageBytes};
+ghost use Rattle.image.specs.Image.{ctlrOf, seenOf, cfgr0Of, cfgr2Of, flashOf, fieldsOf, listOf, inWidth, readImageSays, readImage, imageBytes};
 
 // CTLR: what switches the oscillators and PLLs on.
 pub struct Ctlr {
@@ -113,106 +112,100 @@ pub const WIDTHS: [u8; 34] = [
     5, // filling
 ];
 
-// The fields of each register, by their first bit in the image and their width.
-fn read_ctlr(s: &[u8]) -> Ctlr
-    ensures { λ r. ⌜ r ≡ ctlrOf (cut widths (now (s .entry)) 0) ⌝ }
+// The fields of each register, by their place in the list of fields.
+fn ctlr_of(xs: [u8; 34]) -> Ctlr
+    ensures { λ r. ⌜ r ≡ ctlrOf xs ⌝ }
 {
     Ctlr {
-        hsion: layout::flag(s, 0),
-        hsebyp: layout::flag(s, 1),
-        hseon: layout::flag(s, 2),
-        csson: layout::flag(s, 3),
-        pllon: layout::flag(s, 4),
-        usbhs_pllon: layout::flag(s, 5),
-        eth_pllon: layout::flag(s, 6),
+        hsion: xs[0] == 1,
+        hsebyp: xs[1] == 1,
+        hseon: xs[2] == 1,
+        csson: xs[3] == 1,
+        pllon: xs[4] == 1,
+        usbhs_pllon: xs[5] == 1,
+        eth_pllon: xs[6] == 1,
     }
 }
 
-fn read_seen(s: &[u8]) -> Seen
-    ensures { λ r. ⌜ r ≡ seenOf (cut widths (now (s .entry)) 0) ⌝ }
+fn seen_of(xs: [u8; 34]) -> Seen
+    ensures { λ r. ⌜ r ≡ seenOf xs ⌝ }
 {
     Seen {
-        hsirdy: layout::flag(s, 7),
-        hserdy: layout::flag(s, 8),
-        pllrdy: layout::flag(s, 9),
-        usbhs_pllrdy: layout::flag(s, 10),
-        eth_pllrdy: layout::flag(s, 11),
-        sws: layout::code(s, 12, 2),
+        hsirdy: xs[7] == 1,
+        hserdy: xs[8] == 1,
+        pllrdy: xs[9] == 1,
+        usbhs_pllrdy: xs[10] == 1,
+        eth_pllrdy: xs[11] == 1,
+        sws: xs[12],
     }
 }
 
-fn read_cfgr0(s: &[u8]) -> Cfgr0
-    ensures { λ r. ⌜ r ≡ cfgr0Of (cut widths (now (s .entry)) 0) ⌝ }
+fn cfgr0_of(xs: [u8; 34]) -> Cfgr0
+    ensures { λ r. ⌜ r ≡ cfgr0Of xs ⌝ }
 {
     Cfgr0 {
-        sw: layout::code(s, 14, 2),
-        pllsrc: layout::flag(s, 16),
-        pllmul: layout::code(s, 17, 5),
-        hpre: layout::code(s, 22, 4),
-        ppre1: layout::code(s, 26, 3),
-        ppre2: layout::code(s, 29, 3),
-        adcpre: layout::code(s, 32, 2),
-        adcsrc: layout::flag(s, 34),
-        adc_duty: layout::code(s, 35, 2),
+        sw: xs[13],
+        pllsrc: xs[14] == 1,
+        pllmul: xs[15],
+        hpre: xs[16],
+        ppre1: xs[17],
+        ppre2: xs[18],
+        adcpre: xs[19],
+        adcsrc: xs[20] == 1,
+        adc_duty: xs[21],
     }
 }
 
-fn read_cfgr2(s: &[u8]) -> Cfgr2
-    ensures { λ r. ⌜ r ≡ cfgr2Of (cut widths (now (s .entry)) 0) ⌝ }
+fn cfgr2_of(xs: [u8; 34]) -> Cfgr2
+    ensures { λ r. ⌜ r ≡ cfgr2Of xs ⌝ }
 {
     Cfgr2 {
-        usbhspllsrc: layout::code(s, 37, 2),
-        usbhspllclk: layout::code(s, 39, 2),
-        syspllsrc: layout::code(s, 41, 3),
-        sysplldiv: layout::code(s, 44, 3),
-        syspll_gate: layout::flag(s, 47),
-        rngsrc: layout::flag(s, 48),
-        i2spllsrc: layout::flag(s, 49),
+        usbhspllsrc: xs[22],
+        usbhspllclk: xs[23],
+        syspllsrc: xs[24],
+        sysplldiv: xs[25],
+        syspll_gate: xs[26] == 1,
+        rngsrc: xs[27] == 1,
+        i2spllsrc: xs[28] == 1,
     }
 }
 
-fn read_cfgr3(s: &[u8]) -> Cfgr3
-    ensures { λ r. ⌜ r ≡ cfgr3Of (cut widths (now (s .entry)) 0) ⌝ }
-{
-    Cfgr3 {
-        adc_clkdiv: layout::code(s, 50, 5),
-    }
-}
-
-fn read_flash(s: &[u8]) -> Flash
-    ensures { λ r. ⌜ r ≡ flashOf (cut widths (now (s .entry)) 0) ⌝ }
+fn flash_of(xs: [u8; 34]) -> Flash
+    ensures { λ r. ⌜ r ≡ flashOf xs ⌝ }
 {
     Flash {
-        sckmod: layout::code(s, 55, 2),
-        lock: layout::flag(s, 57),
-        flock: layout::flag(s, 58),
+        sckmod: xs[30],
+        lock: xs[31] == 1,
+        flock: xs[32] == 1,
     }
 }
 
-fn read_fields(s: &[u8]) -> Fields
-    ensures { λ r. ⌜ r ≡ fieldsOf (cut widths (now (s .entry)) 0) ⌝ }
+fn fields_of(xs: [u8; 34]) -> Fields
+    ensures { λ r. ⌜ r ≡ fieldsOf xs ⌝ }
 {
     Fields {
-        ctlr: read_ctlr(s),
-        seen: read_seen(s),
-        cfgr0: read_cfgr0(s),
-        cfgr2: read_cfgr2(s),
-        cfgr3: read_cfgr3(s),
-        flash: read_flash(s),
+        ctlr: ctlr_of(xs),
+        seen: seen_of(xs),
+        cfgr0: cfgr0_of(xs),
+        cfgr2: cfgr2_of(xs),
+        cfgr3: Cfgr3 { adc_clkdiv: xs[29] },
+        flash: flash_of(xs),
     }
 }
 
 // Reads an image. Refused by 31: not eight bytes, or the filling not zero.
 pub fn read_image(s: &[u8]) -> ReadImage
-    ensures { λ r. ⌜ imageRead r ≡ readImage (now (s .entry)) ⌝ }
+    ensures { λ r. ⌜ readImageSays r ≡ readImage (now (s .entry)) ⌝ }
 {
     if s.len() != 8 {
         return ReadImage::Refused(answer::IMAGE_LENGTH_OR_FILLING);
     }
-    if layout::code(s, 59, 5) != 0 {
+    let mut xs = [0u8; 34];
+    layout::load(&WIDTHS, s, &mut xs);
+    if xs[33] != 0 {
         return ReadImage::Refused(answer::IMAGE_LENGTH_OR_FILLING);
     }
-    ReadImage::Image(read_fields(s))
+    ReadImage::Image(fields_of(xs))
 }
 
 // Is every code within its field's width? The decoder and the startup ask this too.
@@ -285,7 +278,7 @@ pub fn write_image(f: Fields, out: &mut [u8]) -> Outcome
         return Outcome::Refused(answer::OUTPUT_TOO_SHORT);
     }
     let xs = list_of(f);
-    if layout::store(&WIDTHS, &xs, &mut out[..8]) {
+    if layout::store(&WIDTHS, &xs, out) {
         Outcome::Done
     } else {
         Outcome::Refused(answer::CODE_NOT_ALLOWED)

@@ -3,17 +3,17 @@
 use mathlib.Core.Path.{_≡_, refl, sym, ap, ap₂, _∙_}
 use mathlib.Core.Bool.{Bool, true, false, _&&_}
 use mathlib.Core.List.{List, [], _∷_, _++_}
-use Prim.Native.Nat.{ℕ, zero, suc, _+_, _*_, _/_, _%_, _^_, _<_}
-use native.Mathlib.Nat.{mod-lt, mod-eq-of-lt, mul-assoc, mul-comm, add-mul, mul-add-div-right, mul-add-mod-self-right, mod-one}
+use Prim.Native.Nat.{ℕ, zero, suc, _+_, _*_, _/_, _%_, _^_, _≤_, _<_}
+use native.Mathlib.Nat.{add-zero, mod-lt, mod-eq-of-lt, mul-assoc, mul-comm, add-mul, mul-add-div-right, mul-add-mod-self-right, mod-one}
 use native.Mathlib.Omega.{arith}
 use native.Mathlib.Numerals.{add-one}
-use lib.ListN.{length, getD, drop, length-replicate}
+use lib.ListN.{length, getD, take, drop, length-replicate, take-append-drop}
 use lib.Dec.{ltb, leb, lit<}
-use lib.Seq.{drop-cons}
-use lib.Pow.{pow-pos, pow-add, mod-pow-add, split}
+use lib.Seq.{drop-cons, take-suc, length-take-le}
+use lib.Pow.{pow-pos, pow-add, mod-pow-add}
 use lib.Arith.{digits-lt, digits-div}
 use borrow.Author.Tests.{ltb-true, lt-ltb}
-use Rattle.layout.specs.Layout.{total, unpack, pack, fitting, storableIn, storable, bytes, num}
+use Rattle.layout.specs.Layout.{total, unpack, pack, fitting, fieldFits, fieldsFit, bytes, num, Bytes}
 
 pub and-left : (a b : Bool) → a && b ≡ true → a ≡ true
 and-left true b h = refl
@@ -25,6 +25,10 @@ and-right false b h = let z : false ≡ true = h in cc
 
 pub and-both : {a b : Bool} → a ≡ true → b ≡ true → a && b ≡ true
 and-both h k = rw (h, k)
+
+pub and-true : (a : Bool) → a && true ≡ a
+and-true true = refl
+and-true false = refl
 
 -- ---- any layout
 
@@ -79,22 +83,20 @@ fitting-length [] (x ∷ xs) h = let z : false ≡ true = h in cc
 fitting-length (w ∷ ws) [] h = let z : false ≡ true = h in cc
 fitting-length (w ∷ ws) (x ∷ xs) h = ap suc (fitting-length ws xs (and-right (ltb x (2 ^ w)) (fitting ws xs) h))
 
--- A field may be cut into a layout of its own.
-total-append : (us ws : List ℕ) → total (us ++ ws) ≡ total us + total ws
+-- Two layouts one after the other.
+pub total-append : (us ws : List ℕ) → total (us ++ ws) ≡ total us + total ws
 total-append [] ws = omega arith
 total-append (u ∷ us) ws = rw (total-append us ws) (omega arith)
 
-pack-append : (us ws : List ℕ) (v : ℕ) (xs : List ℕ) → pack (us ++ ws) (unpack us v ++ xs) ≡ pack us (unpack us v) * 2 ^ total ws + pack ws xs
-pack-append [] ws v xs = omega arith
-pack-append (u ∷ us) ws v xs =
-    let x = v / 2 ^ total us % 2 ^ u in
+pub pack-append : (us ws xs ys : List ℕ) → length us ≡ length xs → pack (us ++ ws) (xs ++ ys) ≡ pack us xs * 2 ^ total ws + pack ws ys
+pack-append [] ws [] ys h = omega arith
+pack-append [] ws (x ∷ xs) ys h = absurd (omega arith)
+pack-append (u ∷ us) ws [] ys h = absurd (omega arith)
+pack-append (u ∷ us) ws (x ∷ xs) ys h =
     let p = 2 ^ total us in
     let q = 2 ^ total ws in
-    let d : (x * p + pack us (unpack us v)) * q ≡ x * p * q + pack us (unpack us v) * q = add-mul (x * p) (pack us (unpack us v)) q in
-    rw (total-append us ws, pow-add 2 (total us) (total ws), pack-append us ws v xs, ← mul-assoc x p q) (omega (arith, d))
-
-pub pack-finer : (us ws : List ℕ) (x : ℕ) (xs : List ℕ) → x < 2 ^ total us → pack (us ++ ws) (unpack us x ++ xs) ≡ pack (total us ∷ ws) (x ∷ xs)
-pack-finer us ws x xs h = rw (pack-append us ws x xs, pack-unpack us x, mod-eq-of-lt h)
+    let d : (x * p + pack us xs) * q ≡ x * p * q + pack us xs * q = add-mul (x * p) (pack us xs) q in
+    rw (total-append us ws, pow-add 2 (total us) (total ws), pack-append us ws xs ys (omega arith), ← mul-assoc x p q) (omega (arith, d))
 
 -- ---- bytes
 
@@ -119,41 +121,57 @@ num-snoc (x ∷ l) b =
     let e : x * (256 * p) ≡ 256 * (x * p) = sym (mul-assoc x 256 p) ∙ ap (λ (n : ℕ). n * p) (mul-comm x 256) ∙ mul-assoc 256 x p in
     rw (total-snoc l b, pow-add 2 8 (total (bytes (length l))), num-snoc l b) (omega (arith, e))
 
+pub bytes-snoc : (l : List ℕ) (b : ℕ) → Bytes l → b < 256 → Bytes (l ++ b ∷ [])
+bytes-snoc [] b h k = and-both (lt-ltb b 256 k) refl
+bytes-snoc (x ∷ l) b h k =
+    and-both (and-left (ltb x 256) (fitting (bytes (length l)) l) h) (bytes-snoc l b (and-right (ltb x 256) (fitting (bytes (length l)) l) h) k)
+
 -- the number of the n bytes of v
 pub num-unpack : (n v : ℕ) → num (unpack (bytes n) v) ≡ v % 2 ^ total (bytes n)
 num-unpack n v = ap (λ (k : ℕ). pack (bytes k) (unpack (bytes n) v)) (length-unpack (bytes n) v ∙ length-replicate n 8) ∙ pack-unpack (bytes n) v
 
--- shifting in looks only at the bits that stay
-pub shift-wrapped : (ws : List ℕ) (v k r : ℕ) → unpack ws (v % 2 ^ total ws * k + r) ≡ unpack ws (v * k + r)
-shift-wrapped ws v k r =
-    let t = 2 ^ total ws in
-    let a : v / t * k * t ≡ v / t * t * k = mul-assoc (v / t) k t ∙ ap (λ (n : ℕ). v / t * n) (mul-comm k t) ∙ sym (mul-assoc (v / t) t k) in
-    let b : (v / t * t + v % t) * k ≡ v / t * t * k + v % t * k = add-mul (v / t * t) (v % t) k in
-    let e : v / t * k * t + (v % t * k + r) ≡ (v / t * t + v % t) * k + r = omega (arith, a, b) in
-    sym (unpack-above ws (v / t * k) (v % t * k + r)) ∙ ap (unpack ws) (e ∙ ap (λ (n : ℕ). n * k + r) (split v (total ws)))
-
--- ---- the fields from place i on
+-- ---- the fields one by one
 
 module _ (ws xs : List ℕ) (i : ℕ) (h : i < length ws) (k : i < length xs) where
-  pub storable-at : storable (drop i ws) (drop i xs) ≡ (storableIn (getD ws i 0) (getD xs i 0) && storable (drop (i + 1) ws) (drop (i + 1) xs))
-  storable-at = rw (add-one, drop-cons ws i 0 h, drop-cons xs i 0 k)
+  pub fits-at : fieldsFit (drop i ws) (drop i xs) ≡ (fieldFits (getD ws i 0) (getD xs i 0) && fieldsFit (drop (i + 1) ws) (drop (i + 1) xs))
+  fits-at = rw (add-one, drop-cons ws i 0 h, drop-cons xs i 0 k)
 
-  -- the next field shifted in leaves the number that all of them make
-  pub shift-at : (v : ℕ)
-      → (v * 2 ^ getD ws i 0 + getD xs i 0) * 2 ^ total (drop (i + 1) ws) + pack (drop (i + 1) ws) (drop (i + 1) xs)
-      ≡ v * 2 ^ total (drop i ws) + pack (drop i ws) (drop i xs)
-  shift-at v =
+  -- one field more
+  pub pack-next : length ws ≡ length xs
+      → pack (take (i + 1) ws) (take (i + 1) xs) ≡ pack (take i ws) (take i xs) * 2 ^ getD ws i 0 + getD xs i 0
+  pack-next e =
       let w = getD ws i 0 in
       let x = getD xs i 0 in
-      let n = total (drop (suc i) ws) in
-      let a : (v * 2 ^ w + x) * 2 ^ n ≡ v * 2 ^ w * 2 ^ n + x * 2 ^ n = add-mul (v * 2 ^ w) x (2 ^ n) in
-      let b : v * 2 ^ (w + n) ≡ v * 2 ^ w * 2 ^ n = ap (λ (m : ℕ). v * m) (pow-add 2 w n) ∙ sym (mul-assoc v (2 ^ w) (2 ^ n)) in
-      rw (add-one, drop-cons ws i 0 h, drop-cons xs i 0 k) (omega (arith, a, b))
+      let l : length (take i ws) ≡ length (take i xs) = length-take-le i ws (omega arith) ∙ sym (length-take-le i xs (omega arith)) in
+      rw (add-one, take-suc ws i 0 h, take-suc xs i 0 k, pack-append (take i ws) (w ∷ []) (take i xs) (x ∷ []) l) (simp add-zero (omega arith))
 
-pub storable-fitting : (ws xs : List ℕ) → storable ws xs ≡ true → fitting ws xs ≡ true
-storable-fitting [] [] h = refl
-storable-fitting [] (x ∷ xs) h = h
-storable-fitting (w ∷ ws) [] h = h
-storable-fitting (w ∷ ws) (x ∷ xs) h =
-    and-both (and-right (leb w 8) (ltb x (2 ^ w)) (and-left (storableIn w x) (storable ws xs) h))
-    (storable-fitting ws xs (and-right (storableIn w x) (storable ws xs) h))
+pub total-next : (ws : List ℕ) (i : ℕ) → i < length ws → total (take (i + 1) ws) ≡ total (take i ws) + getD ws i 0
+total-next ws i h = rw (add-one, take-suc ws i 0 h, total-append (take i ws) (getD ws i 0 ∷ [])) (omega arith)
+
+pub total-take : (ws : List ℕ) (i : ℕ) → total (take i ws) ≤ total ws
+total-take ws i = omega (arith, ap total (take-append-drop i ws), total-append (take i ws) (drop i ws))
+
+pub fits-each : (ws xs : List ℕ) (i : ℕ) → fieldsFit ws xs ≡ true → i < length ws → fieldFits (getD ws i 0) (getD xs i 0) ≡ true
+fits-each [] xs i f h = absurd (omega arith)
+fits-each (w ∷ ws) [] i f h = let z : false ≡ true = f in cc
+fits-each (w ∷ ws) (x ∷ xs) zero f h = and-left (fieldFits w x) (fieldsFit ws xs) f
+fits-each (w ∷ ws) (x ∷ xs) (suc i) f h = fits-each ws xs i (and-right (fieldFits w x) (fieldsFit ws xs) f) (omega arith)
+
+pub fits-fitting : (ws xs : List ℕ) → fieldsFit ws xs ≡ true → fitting ws xs ≡ true
+fits-fitting [] [] h = refl
+fits-fitting [] (x ∷ xs) h = h
+fits-fitting (w ∷ ws) [] h = h
+fits-fitting (w ∷ ws) (x ∷ xs) h =
+    and-both (and-right (leb w 8) (ltb x (2 ^ w)) (and-left (fieldFits w x) (fieldsFit ws xs) h))
+    (fits-fitting ws xs (and-right (fieldFits w x) (fieldsFit ws xs) h))
+
+-- no width above eight
+abbrev pub narrow : List ℕ → Bool
+narrow [] = true
+narrow (w ∷ ws) = leb w 8 && narrow ws
+
+pub fits-narrow : (ws xs : List ℕ) → narrow ws ≡ true → fieldsFit ws xs ≡ fitting ws xs
+fits-narrow [] [] n = refl
+fits-narrow [] (x ∷ xs) n = refl
+fits-narrow (w ∷ ws) [] n = refl
+fits-narrow (w ∷ ws) (x ∷ xs) n = rw (and-left (leb w 8) (narrow ws) n, fits-narrow ws xs (and-right (leb w 8) (narrow ws) n))

@@ -1,19 +1,20 @@
 -- Reading by bits is unpacking: the bits at a layout's places are the fields of the number that the bytes spell.
 -- Assumes nothing.
 use mathlib.Core.Path.{_≡_, refl, sym, ap, ap₂, _∙_}
-use mathlib.Core.Bool.{Bool, true, false}
+use mathlib.Core.Bool.{Bool, true, false, cond}
 use mathlib.Core.List.{List, [], _∷_}
-use Prim.Native.Nat.{ℕ, zero, suc, _+_, _-_, _*_, _/_, _%_, _^_, _<_}
-use native.Mathlib.Nat.{mod-one, mod-eq-of-lt, pow-suc, mul-assoc, mul-add-div-right, mul-add-mod-self-right}
+use Prim.Native.Nat.{ℕ, zero, suc, _+_, _-_, _*_, _/_, _%_, _^_, _≤_, _<_}
+use native.Mathlib.Nat.{le-refl, le-antisymm, mod-one, mod-eq-of-lt, pow-suc, mul-assoc, mul-add-div-right, mul-add-mod-self-right}
 use native.Mathlib.Numerals.{add-one}
 use native.Mathlib.Omega.{arith}
+use borrow.Author.Tests.{ltb-false}
 use lib.ListN.{length, getD, length-replicate}
 use lib.Dec.{ltb, eqb}
 use lib.Pow.{pow-pos, pow-add, shr-shr, mod-pow-add}
 use lib.Arith.{digits-div}
-use Rattle.layout.specs.Layout.{total, unpack, pack, fitting, bytes, num, Bytes, packed, shifted}
-use Rattle.layout.specs.Bits.{bit, bitAt, bitsAt, cut}
-use Rattle.layout.proofs.Laws.{and-right, pack-lt, pack-unpack, unpack-pack, unpack-above, fitting-unpack, length-unpack, num-unpack, total-bytes}
+use Rattle.layout.specs.Layout.{total, unpack, pack, fitting, bytes, num, Bytes, packed}
+use Rattle.layout.specs.Bits.{bit, bitAt, bitsAt, cut, upTo}
+use Rattle.layout.proofs.Laws.{and-right, pack-lt, pack-unpack, unpack-pack, fitting-unpack, length-unpack, num-unpack, total-bytes}
 
 -- a bit and its number
 pub flag-of-bit : (b : Bool) → eqb (bit b) 1 ≡ b
@@ -24,13 +25,27 @@ pub bit-fits : (b : Bool) → ltb (bit b) 2 ≡ true
 bit-fits true = refl
 bit-fits false = refl
 
-bit-below : (x : ℕ) → x < 2 → bit (eqb x 1) ≡ x
+pub bit-below : (x : ℕ) → x < 2 → bit (eqb x 1) ≡ x
 bit-below zero h = refl
 bit-below (suc zero) h = refl
 bit-below (suc (suc n)) h = let z : ⊥ = omega arith in absurd z
 
 pub bit-of-flag : (x : ℕ) → bit (eqb (x % 2) 1) ≡ x % 2
 bit-of-flag x = bit-below (x % 2) (omega arith)
+
+below : (limit n : ℕ) (b : Bool) → ltb n limit ≡ b → cond b n limit ≤ n
+below limit n true e = le-refl n
+below limit n false e = ltb-false n limit e
+
+pub up-to-below : (limit n : ℕ) → upTo limit n ≤ n
+up-to-below limit n = below limit n (ltb n limit) refl
+
+all : (limit n : ℕ) → n ≤ limit → (b : Bool) → ltb n limit ≡ b → cond b n limit ≡ n
+all limit n h true e = refl
+all limit n h false e = le-antisymm (ltb-false n limit e) h
+
+pub up-to-all : (limit n : ℕ) → n ≤ limit → upTo limit n ≡ n
+up-to-all limit n h = all limit n h (ltb n limit) refl
 
 -- n bits spell a number below 2 ^ n
 pub bits-lt : (s : List ℕ) (at n : ℕ) → bitsAt s at n < 2 ^ n
@@ -106,9 +121,3 @@ module _ (ws : List ℕ) (n : ℕ) (whole : total ws ≡ 8 * n) where
       let f : fitting (bytes n) s ≡ true = rw l at b in
       let h : num s < 2 ^ total ws = rw (e, same-total) (pack-lt (bytes n) s f) in
       ap (unpack (bytes n)) (pack-unpack ws (num s) ∙ mod-eq-of-lt h ∙ e) ∙ unpack-pack (bytes n) s f
-
-  -- shifted into n bytes, a record of as many bits leaves nothing of what they held
-  pub shifted-packed : (xs l : List ℕ) → length l ≡ n → shifted ws xs l ≡ packed n ws xs
-  shifted-packed xs l e =
-      ap (λ (m : ℕ). unpack (bytes m) (num l * 2 ^ total ws + pack ws xs)) e
-      ∙ ap (λ (m : ℕ). unpack (bytes n) (num l * 2 ^ m + pack ws xs)) same-total ∙ unpack-above (bytes n) (num l) (pack ws xs)

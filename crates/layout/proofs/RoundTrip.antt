@@ -10,7 +10,7 @@ use lib.ListN.{length, take, drop}
 use lib.Seq.{take-at}
 use lib.Dec.{eqb, ltb}
 use Rattle.answer.specs.Answer.{Answer, gives, refuses, refuse, _>>=_, _>>_}
-use Rattle.answer.specs.Said.{done}
+use Rattle.answer.specs.Said.{outcomeSays}
 use Rattle.answer.specs.declared.Outcome.{Outcome}
 use Rattle.answer.specs.declared.Outcome.the-variants.{Done}
 use Rattle.layout.specs.Layout.{total, unpack, fitting, num, Bytes, packed}
@@ -90,7 +90,7 @@ module _ {A : Type 0} (n : ℕ) (ws : List ℕ) (whole : total ws ≡ 8 * n)
 -- an accepted write had bytes to write, and wrote them
 accepted : (l l′ d : List ℕ) (t : Bool) (m : Answer (List ℕ))
     → let w : Answer (List ℕ) = _>>_ (refuse 32 t) (_>>=_ m (λ b. gives (b ++ d))) in
-    done Done ≡ _>>_ w (gives tt) → l′ ≡ after l w → (b : List ℕ) × ((m ≡ gives b) × (l′ ≡ b ++ d))
+    outcomeSays Done ≡ _>>_ w (gives tt) → l′ ≡ after l w → (b : List ℕ) × ((m ≡ gives b) × (l′ ≡ b ++ d))
 accepted l l′ d false (gives b) e k = (b, (refl, k))
 accepted l l′ d false (refuses n) e k = let z : _≡_ {A = ℕ} 0 1 = cc in absurd (omega arith)
 accepted l l′ d true m e k = let z : _≡_ {A = ℕ} 0 1 = cc in absurd (omega arith)

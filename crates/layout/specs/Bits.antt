@@ -2,8 +2,8 @@
 -- Assumes nothing.
 use Prim.Native.Nat.{ℕ, zero, suc, _+_, _-_, _*_, _/_, _%_, _^_}
 use mathlib.Core.Bool.{Bool, true, false, cond}
-use mathlib.Core.List.{List, [], _∷_}
-use lib.ListN.{getD}
+use mathlib.Core.List.{List, [], _∷_, _++_}
+use lib.ListN.{length, getD, take, drop}
 use lib.Dec.{ltb, eqb}
 
 -- the bit at place k
@@ -32,3 +32,15 @@ cut (w ∷ ws) s at = bitsAt s at w ∷ cut ws s (at + w)
 -- n, and never above the limit
 abbrev pub upTo : ℕ → ℕ → ℕ
 upTo limit n = cond (ltb n limit) n limit
+
+-- widths above eight count as eight
+abbrev pub narrowed : List ℕ → List ℕ
+narrowed [] = []
+narrowed (w ∷ ws) = upTo 8 w ∷ narrowed ws
+
+-- the lent bytes l after a load of n fields, and how many are loaded: those for which a byte is lent, and at most 256
+abbrev pub loading : ℕ → List ℕ → List ℕ → List ℕ → List ℕ
+loading n ws s l = cut (narrowed (take n ws)) s 0 ++ drop n l
+
+abbrev pub loaded : List ℕ → List ℕ → List ℕ → List ℕ
+loaded ws s l = loading (upTo 256 (upTo (length l) (length ws))) ws s l

@@ -5,7 +5,7 @@ use mathlib.Core.Bool.{Bool, true, false, _&&_}
 use mathlib.Core.List.{List, [], _∷_}
 use mathlib.Core.Path.{_≡_}
 use lib.ListN.{length, replicate}
-use lib.Dec.{ltb, leb}
+use lib.Dec.{eqb, ltb, leb}
 
 -- how many bits a layout has
 abbrev pub total : List ℕ → ℕ
@@ -47,16 +47,20 @@ abbrev pub packed : ℕ → List ℕ → List ℕ → List ℕ
 packed n ws xs = unpack (bytes n) (pack ws xs)
 
 -- a field within its width, which is at most a byte
-abbrev pub storableIn : ℕ → ℕ → Bool
-storableIn w x = leb w 8 && ltb x (2 ^ w)
+abbrev pub fieldFits : ℕ → ℕ → Bool
+fieldFits w x = leb w 8 && ltb x (2 ^ w)
 
 -- `fitting`, and no field is wider than a byte
-abbrev pub storable : List ℕ → List ℕ → Bool
-storable [] [] = true
-storable [] (x ∷ xs) = false
-storable (w ∷ ws) [] = false
-storable (w ∷ ws) (x ∷ xs) = storableIn w x && storable ws xs
+abbrev pub fieldsFit : List ℕ → List ℕ → Bool
+fieldsFit [] [] = true
+fieldsFit [] (x ∷ xs) = false
+fieldsFit (w ∷ ws) [] = false
+fieldsFit (w ∷ ws) (x ∷ xs) = fieldFits w x && fieldsFit ws xs
 
--- what the bytes l hold after the fields were shifted in from the right, one after another: the layout's bits, and before them what is left of l
-abbrev pub shifted : List ℕ → List ℕ → List ℕ → List ℕ
-shifted ws xs l = unpack (bytes (length l)) (num l * 2 ^ total ws + pack ws xs)
+-- the bytes that a layout fills
+abbrev pub sizeOf : List ℕ → ℕ
+sizeOf ws = total ws / 8
+
+-- fields that can be stored in n bytes: they fit, they are whole bytes in all, and there is room
+abbrev pub storable : List ℕ → List ℕ → ℕ → Bool
+storable ws xs n = fieldsFit ws xs && (eqb (total ws % 8) 0 && leb (sizeOf ws) n)

@@ -6,7 +6,7 @@ use mathlib.Core.List.{List, _++_}
 use lib.ListN.{length, drop}
 use lib.Dec.{ltb}
 use Rattle.answer.specs.Answer.{Answer, gives, refuses, refuse, _>>=_, _>>_}
-use Rattle.answer.specs.Said.{done, outcome-settled}
+use Rattle.answer.specs.Said.{outcomeSays, outcome-settled}
 use Rattle.answer.specs.declared.Outcome.{Outcome}
 
 -- What the lent bytes l are to hold after a write of n bytes, or why nothing is written: 32 first, then what refuses the record itself.
@@ -24,7 +24,7 @@ after l (refuses n) = l
 
 -- A write of the record m, n bytes, into l: its answer, and every lent byte.
 pub record Wrote (n : ℕ) (m : Answer (List ℕ)) (l l′ : List ℕ) (r : Outcome) : Type 0 where
-  pub answer : done r ≡ _>>_ (written n m l) (gives tt)
+  pub answer : outcomeSays r ≡ _>>_ (written n m l) (gives tt)
   pub bytes : l′ ≡ after l (written n m l)
 
 -- Nothing is left open: the answer and the bytes of a write are settled.

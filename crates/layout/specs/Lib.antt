@@ -1,5 +1,7 @@
 pub mod Bits
 pub mod Codec
+pub mod Gathered
 pub mod Layout
 pub mod Lent
+pub mod Order
 pub mod Stored

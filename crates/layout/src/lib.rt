@@ -1,10 +1,19 @@
 // Records packed most significant bit first: a layout is the list of its fields' widths.
 ghost use mathlib.Core.Path.{_≡_};
+ghost use mathlib.Core.List.{[], _∷_};
 ghost use Prim.Native.Nat.{_+_, _*_, _^_, _≤_, _<_};
 ghost use lib.ListN.{length};
-ghost use Rattle.layout.specs.Bits.{bitAt, bitsAt, flagAt, upTo};
-ghost use Rattle.layout.specs.Layout.{num, unpack, bytes, storableIn, storable};
+ghost use Rattle.layout.specs.Bits.{bitAt, bitsAt, flagAt, upTo, loaded};
+ghost use Rattle.layout.specs.Layout.{num, unpack, bytes, fieldFits, storable};
+ghost use Rattle.layout.specs.Gathered.{Fits, Gathers};
 ghost use Rattle.layout.specs.Stored.{Stored};
+
+// The bits of a record that don't make a byte yet: `count` of them spell `value`, and go to the byte `at`.
+struct Pending {
+    at: usize,
+    count: u8,
+    value: u64,
+}
 
 // A byte as a u64, so that the callers' sums have room.
 fn wide(x: u8) -> u64
@@ -75,59 +84,118 @@ pub fn code(s: &[u8], at: usize, width: usize) -> u8
     bits(s, at, n) as u8
 }
 
+// The 32 bits from place `at` on.
+pub fn word(s: &[u8], at: usize) -> u32
+    ensures { λ r. ⌜ r ≡ bitsAt (now (s .entry)) at 32 ⌝ }
+{
+    bits(s, at, 32) as u32
+}
+
+// The number that four bytes spell, the most significant first.
+pub fn number(a: u8, b: u8, c: u8, d: u8) -> u32
+    ensures { λ r. ⌜ r ≡ num (a ∷ b ∷ c ∷ d ∷ []) ⌝ }
+{
+    let high = wide(a) * 256 + wide(b);
+    let low = wide(c) * 256 + wide(d);
+    (high * 65536 + low) as u32
+}
+
+// The four bytes of a number, the most significant first.
+pub fn four_bytes(x: u32) -> [u8; 4]
+    ensures { λ r. ⌜ r ≡ unpack (bytes 4) x ⌝ }
+{
+    [
+        (x / 0x100_0000 % 256) as u8,
+        (x / 0x1_0000 % 256) as u8,
+        (x / 0x100 % 256) as u8,
+        (x % 256) as u8,
+    ]
+}
+
+// Loads the fields of a layout out of the bytes s, one a byte, into the first of the lent ones; those beyond stay. It is the inverse of `store`.
+// A width above eight counts as eight. Fields for which no byte is lent are not loaded, nor those after the first 256.
+pub fn load(ws: &[u8], s: &[u8], out: &mut [u8])
+    ensures { λ _. ⌜ now (out .exit) ≡ loaded (now (ws .entry)) (now (s .entry)) (now (out .entry)) ⌝ }
+{
+    let n = up_to(256, up_to(out.len(), ws.len()));
+    let mut at = 0;
+    let mut i = 0;
+    while i < n {
+        let w = ws[i] as usize;
+        let x = code(s, at, w);
+        out[i] = x;
+        at += up_to(8, w);
+        i += 1;
+    }
+}
+
 // Is x a field of w bits, and w at most eight?
 fn fits_in(w: u8, x: u8) -> bool
-    ensures { λ r. ⌜ r ≡ storableIn w x ⌝ }
+    ensures { λ r. ⌜ r ≡ fieldFits w x ⌝ }
 {
     if w <= 8 { wide(x) < two(w) } else { false }
 }
 
-// Is there one field for each width, each within it, and none wider than a byte?
-fn fits(ws: &[u8], xs: &[u8]) -> bool
-    ensures { λ r. ⌜ r ≡ storable (now (ws .entry)) (now (xs .entry)) ⌝ }
+// Is there one field for each width, each within it, and none wider than a byte? And are they whole bytes in all, no more than there is room for?
+fn fits(ws: &[u8], xs: &[u8], room: usize) -> bool
+    ensures { λ r. ⌜ r ≡ storable (now (ws .entry)) (now (xs .entry)) room ⌝ }
 {
     if ws.len() != xs.len() {
         return false;
     }
+    let mut size = 0;
+    let mut count: u8 = 0;
     let mut i = 0;
     while i < ws.len() {
         if !fits_in(ws[i], xs[i]) {
             return false;
         }
+        count += ws[i];
+        size += (count / 8) as usize;
+        count = count % 8;
         i += 1;
     }
-    true
+    (count == 0) & (size <= room)
 }
 
-// Shifts the w bits of x in from the right: the bytes, as one number, become 2 ^ w times as much and x more. What leaves at the left is lost.
-fn shift_in(out: &mut [u8], w: u8, x: u8)
-    requires { ⌜ w ≤ 8 ⌝ }
-    ensures { λ _. ⌜ now (out .exit) ≡ unpack (bytes (length (now (out .entry)))) (num (now (out .entry)) * 2 ^ w + x) ⌝ }
+// Takes the w bits of x after those that are pending. Where they make a byte, it goes into its place.
+fn gather(out: &mut [u8], p: Pending, w: u8, x: u8) -> Pending
+    requires { ⌜ Fits (length (now out)) p w x ⌝ }
+    ensures { λ r. ⌜ Gathers (now (out .entry)) p w x (now (out .exit)) r ⌝ }
 {
-    let p = two(w);
-    let mut carry = wide(x);
-    let mut i = out.len();
-    while 0 < i {
-        i -= 1;
-        let t = wide(out[i]) * p + carry;
-        out[i] = (t % 256) as u8;
-        carry = t / 256;
+    let value = p.value * two(w) + wide(x);
+    let count = p.count + w;
+    let at = p.at;
+    if count < 8 {
+        return Pending { at, count, value };
+    }
+    let rest = count - 8;
+    let low = two(rest);
+    out[at] = (value / low) as u8;
+    Pending {
+        at: at + 1,
+        count: rest,
+        value: value % low,
     }
 }
 
-// Shifts the fields in, one after another: where the layout has as many bits as the bytes, nothing of what they held is left.
-// Where the fields don't fit their widths it answers false, and the bytes stay.
+// Stores the fields in the first of the lent bytes, each byte once; those beyond stay. Where the fields don't fit their widths, or aren't whole
+// bytes, or there is no room, it answers false, and all bytes stay.
 pub fn store(ws: &[u8], xs: &[u8], out: &mut [u8]) -> bool
     ensures { λ r. ⌜ Stored (now (ws .entry)) (now (xs .entry)) (now (out .entry)) (now (out .exit)) r ⌝ }
 {
-    if fits(ws, xs) {
-        let mut i = 0;
-        while i < ws.len() {
-            shift_in(out, ws[i], xs[i]);
-            i += 1;
-        }
-        true
-    } else {
-        false
+    if !fits(ws, xs, out.len()) {
+        return false;
     }
+    let mut p = Pending {
+        at: 0,
+        count: 0,
+        value: 0,
+    };
+    let mut i = 0;
+    while i < ws.len() {
+        p = gather(out, p, ws[i], xs[i]);
+        i += 1;
+    }
+    true
 }

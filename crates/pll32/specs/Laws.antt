@@ -1,6 +1,6 @@
 -- Laws of the shared PLL: nothing is left open, the USB clock is 48 MHz, and a decoder given what a check took gives the check's clocks.
 -- Assumes nothing.
-use mathlib.Core.Path.{_≡_, refl, _∙_, subst}
+use mathlib.Core.Path.{_≡_, refl, _∙_, ap, subst}
 use mathlib.Core.Bool.{Bool, true, false, cond}
 use mathlib.Core.List.{List, [], _∷_}
 use Prim.Native.Nat.{ℕ, _+_, _*_, _/_, _<_, _≤_}
@@ -8,20 +8,22 @@ use native.Mathlib.Omega.{arith}
 use native.Mathlib.Nat.{div-le-self, le-trans, mul-le-mul-left, mul-le-mul-right}
 use borrow.Author.Tests.{eqb-true, le-ltb}
 use lib.Dec.{eqb, leb, ltb, leb→le, lit≤}
-use Rattle.answer.specs.Answer.{Answer, gives, refuses, refuse, _>>_, settled-by, bound, passed}
+use Rattle.answer.specs.Answer.{Answer, gives, refuses, refuse, _>>_, settled-by, bound, passed, same-given, refuses-gives}
+use Rattle.divider.specs.declared.Frequency.{Frequency}
+use Rattle.divider.specs.Frequency.{whole}
 use Rattle.divider.specs.Table.{at}
 use Rattle.tree.specs.declared.Clocks.{Clocks}
 use Rattle.tree.specs.Tree.{clocksOf}
 use Rattle.pll32.specs.declared.Part.{Part}
 use Rattle.pll32.specs.declared.Part.the-variants.{V1, L1, V30x}
-use Rattle.pll32.specs.declared.Hse.{Hse}
+use Rattle.tree.specs.declared.HseFrequency.{HseFrequency}
 use Rattle.pll32.specs.declared.Setting.{Setting}
-use Rattle.pll32.specs.declared.Output.{Output}
-use Rattle.pll32.specs.declared.Output.the-variants as pll
+use Rattle.tree.specs.declared.Output.{Output}
+use Rattle.tree.specs.declared.Output.the-variants as pll
 use Rattle.pll32.specs.declared.Checked.{Checked}
 use Rattle.pll32.specs.declared.Checked.the-variants as checked
-use Rattle.pll32.specs.Answers.{Given, same-first}
-use Rattle.pll32.specs.Pll.{accepted, factor, tooWide, familyOf, neededOf, outputOf, configuredOf, sysclkOf, usbDivisor, finishedOf, readSysclkOf, decodedOf}
+use Rattle.pll32.specs.Answers.{Given}
+use Rattle.pll32.specs.Pll.{checkedSays, factor, tooWide, wideSetting, familyOf, neededHseOf, pllOutputOf, pllAsSysclkOf, sysclkOf, usbDivisor, configuredClocksOf, decodedSysclkOf, decodedClocksOf}
 
 -- Nothing is left open: two results that a promise allows are equal.
 
@@ -29,13 +31,13 @@ checkedOf : Answer (Clocks × ℕ) → Checked
 checkedOf (gives x) = checked.Accepted (x .0) (x .1)
 checkedOf (refuses n) = checked.Refused n
 
-checked-again : (r : Checked) → checkedOf (accepted r) ≡ r
+checked-again : (r : Checked) → checkedOf (checkedSays r) ≡ r
 unfolding checkedOf
 checked-again (checked.Accepted k usb) = refl
 checked-again (checked.Refused n) = refl
 
-pub checked-settled : (r s : Checked) → accepted r ≡ accepted s → r ≡ s
-checked-settled = settled-by accepted checkedOf checked-again
+pub checked-settled : (r s : Checked) → checkedSays r ≡ checkedSays s → r ≡ s
+checked-settled = settled-by checkedSays checkedOf checked-again
 
 -- The USB clock: where there is a divisor, it makes 48 MHz of the PLL's output.
 
@@ -85,47 +87,47 @@ hsi-fits part n c h =
 -- The end of a check and the end of a decoder.
 
 -- the setting s gives a decoder what the check has as the PLL's output
-pub record Reads (part : Part) (hse : Hse) (out : Output) (s : Setting) : Type 0 where
-  pub fits : leb 16 (s .mul) ≡ false
-  pub same : (x : ℕ) → configuredOf out ≡ gives x → outputOf part hse s ≡ gives x
+pub record Reads (part : Part) (hse : HseFrequency) (out : Output) (s : Setting) : Type 0 where
+  pub fits : wideSetting (s .prediv) (s .mul) ≡ false
+  pub same : (x : Frequency) → pllAsSysclkOf out ≡ gives x → pllOutputOf part hse s ≡ gives x
 
 -- any setting where no PLL is configured, since the check does not choose it
-pub reads-absent : (part : Part) (hse : Hse) (s : Setting) → leb 16 (s .mul) ≡ false → Reads part hse pll.Absent s
+pub reads-absent : (part : Part) (hse : HseFrequency) (s : Setting) → wideSetting (s .prediv) (s .mul) ≡ false → Reads part hse pll.Absent s
 reads-absent part hse s fits =
-    record { fits = fits; same = λ x e. absurd (let z : _≡_ {A = ℕ} 0 1 = cc in omega arith) }
+    record { fits = fits; same = λ x e. refuses-gives e }
 
-pub reads-hz : (part : Part) (hse : Hse) (s : Setting) {hz : ℕ} → outputOf part hse s ≡ gives hz →
-    Reads part hse (pll.Hz hz) s
-unfolding outputOf
-reads-hz part hse s e = record { fits = passed 28 (leb 16 (s .mul)) _ e .failed; same = λ x q. e ∙ q }
+pub reads-hz : (part : Part) (hse : HseFrequency) (s : Setting) {x : Frequency} → pllOutputOf part hse s ≡ gives x →
+    Reads part hse (pll.At x) s
+unfolding pllOutputOf
+reads-hz part hse s e = record { fits = passed 28 (wideSetting (s .prediv) (s .mul)) _ e .failed; same = λ x q. e ∙ q }
 
 -- 20 in the check, and the choice
-picks : (three one two : Bool) (hse checks reads : Answer ℕ) → ((x : ℕ) → checks ≡ gives x → reads ≡ gives x) →
-    (x : ℕ) → _>>_ (refuse 20 three) (cond one hse (cond two checks (gives 8000000))) ≡ gives x →
-    cond one hse (cond two reads (gives 8000000)) ≡ gives x
+picks : (three one two : Bool) (hse checks reads : Answer Frequency) → ((x : Frequency) → checks ≡ gives x → reads ≡ gives x) →
+    (x : Frequency) → _>>_ (refuse 20 three) (cond one hse (cond two checks (gives (whole 8000000)))) ≡ gives x →
+    cond one hse (cond two reads (gives (whole 8000000))) ≡ gives x
 picks three true two hse checks reads same x e = passed 20 three hse e .after
 picks three false true hse checks reads same x e = same x (passed 20 three checks e .after)
-picks three false false hse checks reads same x e = passed 20 three (gives 8000000) e .after
+picks three false false hse checks reads same x e = passed 20 three (gives (whole 8000000)) e .after
 
 -- then a decoder given the check's codes gives its clocks
-pub read-back : (part : Part) (hse : Hse) (out : Output) (s : Setting) (sys ahb apb1 apb2 : ℕ) {k : Clocks} {u : ℕ} →
-    Reads part hse out s → finishedOf part hse out sys ahb apb1 apb2 ≡ gives (k, u) →
-    decodedOf part hse s sys ahb apb1 apb2 ≡ gives k
-unfolding finishedOf sysclkOf decodedOf readSysclkOf
+pub read-back : (part : Part) (hse : HseFrequency) (out : Output) (s : Setting) (sys ahb apb1 apb2 : ℕ) {k : Clocks} {u : ℕ} →
+    Reads part hse out s → configuredClocksOf part hse out sys ahb apb1 apb2 ≡ gives (k, u) →
+    decodedClocksOf part hse s sys ahb apb1 apb2 ≡ gives k
+unfolding configuredClocksOf sysclkOf decodedClocksOf decodedSysclkOf
 read-back part hse out s sys ahb apb1 apb2 {k} reads e =
     let wide = passed 28 (tooWide sys ahb apb1 apb2) _ e in
     let system = bound (sysclkOf hse out sys) _ (wide .after) in
     let buses = bound (clocksOf (familyOf part) (system .value) ahb apb1 apb2) _ (system .after) in
-    let clocks : buses .value ≡ k = same-first (buses .after) in
-    let chosen : readSysclkOf part hse s sys ≡ gives (system .value) =
-    picks (eqb sys 3) (eqb sys 1) (eqb sys 2) (neededOf hse) (configuredOf out) (outputOf part hse s) (reads .same)
+    let clocks : buses .value ≡ k = ap (λ (p : Clocks × ℕ). p .0) (same-given (buses .after)) in
+    let chosen : decodedSysclkOf part hse s sys ≡ gives (system .value) =
+    picks (eqb sys 3) (eqb sys 1) (eqb sys 2) (neededHseOf hse) (pllAsSysclkOf out) (pllOutputOf part hse s) (reads .same)
     (system .value) (system .gave) in
     rw (reads .fits, wide .failed, chosen, buses .gave, clocks)
 
 -- a check whose system clock is the PLL has its output
-pub pll-chosen : (part : Part) (hse : Hse) (out : Output) (sys ahb apb1 apb2 : ℕ) {k : Clocks} {u : ℕ} →
-    finishedOf part hse out sys ahb apb1 apb2 ≡ gives (k, u) → sys ≡ 2 → Given (configuredOf out)
-unfolding finishedOf sysclkOf
+pub pll-chosen : (part : Part) (hse : HseFrequency) (out : Output) (sys ahb apb1 apb2 : ℕ) {k : Clocks} {u : ℕ} →
+    configuredClocksOf part hse out sys ahb apb1 apb2 ≡ gives (k, u) → sys ≡ 2 → Given (pllAsSysclkOf out)
+unfolding configuredClocksOf sysclkOf
 pll-chosen part hse out sys ahb apb1 apb2 e two =
     let wide = passed 28 (tooWide sys ahb apb1 apb2) _ e in
     let system = bound (sysclkOf hse out sys) _ (wide .after) in

@@ -1,3 +1,4 @@
 pub mod Pll
 pub mod Answers
 pub mod Laws
+pub mod Order

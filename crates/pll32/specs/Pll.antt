@@ -1,9 +1,11 @@
 -- What CH32V1, CH32L1 and CH32V30x share of document 01, "V1 and V30x": the PLL's product, the system clock, the USB divisor.
 -- Assumes nothing.
 use mathlib.Core.Bool.{Bool, true, false, cond, _||_}
-use Prim.Native.Nat.{ℕ, _+_, _*_, _/_}
+use Prim.Native.Nat.{ℕ, _+_, _*_}
 use lib.Dec.{eqb, leb, ltb}
 use Rattle.answer.specs.Answer.{Answer, gives, refuses, refuse, _>>=_, _>>_}
+use Rattle.divider.specs.declared.Frequency.{Frequency}
+use Rattle.divider.specs.Frequency.{whole, times, over}
 use Rattle.divider.specs.declared.Family.{Family}
 use Rattle.divider.specs.declared.Family.the-variants as family
 use Rattle.tree.specs.declared.Clocks.{Clocks}
@@ -12,26 +14,20 @@ use Rattle.pll32.specs.declared.Part.{Part}
 use Rattle.pll32.specs.declared.Part.the-variants.{V1, L1, V30x}
 use Rattle.pll32.specs.declared.Hse.{Hse}
 use Rattle.pll32.specs.declared.Hse.the-variants as hse
+use Rattle.tree.specs.declared.HseFrequency.{HseFrequency}
+use Rattle.tree.specs.declared.HseFrequency.the-variants as frequency
 use Rattle.pll32.specs.declared.Source.{Source}
 use Rattle.pll32.specs.declared.Source.the-variants as source
 use Rattle.pll32.specs.declared.Setting.{Setting}
-use Rattle.pll32.specs.declared.Output.{Output}
-use Rattle.pll32.specs.declared.Output.the-variants as pll
-use Rattle.pll32.specs.declared.Made.{Made}
-use Rattle.pll32.specs.declared.Made.the-variants as made
+use Rattle.tree.specs.declared.Output.{Output}
+use Rattle.tree.specs.declared.Output.the-variants as pll
 use Rattle.pll32.specs.declared.Checked.{Checked}
 use Rattle.pll32.specs.declared.Checked.the-variants as checked
 
--- What the answers say.
-
-abbrev pub outputs : Made → Answer Output
-outputs (made.Is out) = gives out
-outputs (made.Refused n) = refuses n
-
--- the six clocks, and the USB divisor doubled
-abbrev pub accepted : Checked → Answer (Clocks × ℕ)
-accepted (checked.Accepted k usb) = gives (k, usb)
-accepted (checked.Refused n) = refuses n
+-- What a check says: the six clocks, and the USB divisor doubled
+abbrev pub checkedSays : Checked → Answer (Clocks × ℕ)
+checkedSays (checked.Accepted k usb) = gives (k, usb)
+checkedSays (checked.Refused n) = refuses n
 
 -- the number of a check that refuses, 0 of one that doesn't
 abbrev pub refusedOf : Checked → ℕ
@@ -54,15 +50,28 @@ familyOf V30x = family.V30x
 abbrev pub tooWide : ℕ → ℕ → ℕ → ℕ → Bool
 tooWide sys ahb apb1 apb2 = leb 4 sys || leb 16 ahb || leb 8 apb1 || leb 8 apb2
 
--- HSE needed, no frequency (3); it is not range-checked
-abbrev pub neededOf : Hse → Answer ℕ
-neededOf hse.Absent = refuses 3
-neededOf (hse.Present bypass freq) = gives freq
+-- and of a PLL: its predivider, its multiplier
+abbrev pub wideSetting : ℕ → ℕ → Bool
+wideSetting prediv mul = leb 16 prediv || leb 16 mul
 
--- what feeds a PLL: HSI 8 MHz, or HSE (3)
-abbrev pub fromOf : Source → Hse → Answer ℕ
-fromOf source.Hsi hse = gives 8000000
-fromOf source.Hse hse = neededOf hse
+-- the frequency of a configuration's HSE
+abbrev pub hseFrequencyOf : Hse → HseFrequency
+hseFrequencyOf hse.Absent = frequency.Absent
+hseFrequencyOf (hse.Present bypass freq) = frequency.Hz freq
+
+-- HSI 8 MHz
+abbrev pub hsiOf : Answer Frequency
+hsiOf = gives (whole 8000000)
+
+-- HSE needed, no frequency (3); it is not range-checked
+abbrev pub neededHseOf : HseFrequency → Answer Frequency
+neededHseOf frequency.Absent = refuses 3
+neededHseOf (frequency.Hz hz) = gives (whole hz)
+
+-- what feeds a PLL: HSI, or HSE (3)
+abbrev pub sourceFrequencyOf : Source → HseFrequency → Answer Frequency
+sourceFrequencyOf source.Hsi hse = hsiOf
+sourceFrequencyOf source.Hse hse = neededHseOf hse
 
 -- the source that a PLLSRC bit names
 abbrev pub sourceOf : Bool → Source
@@ -83,32 +92,32 @@ halves L1 c = false
 halves V30x c = eqb c 13
 
 -- the product that passes 32 bits is 24
-unfoldable pub multipliedOf : Part → ℕ → ℕ → Answer ℕ
+unfoldable pub multipliedOf : Part → Frequency → ℕ → Answer Frequency
 multipliedOf part input c = do
-  refuse 24 (ltb 4294967295 (input * factor part c))
-  gives (cond (halves part c) (input * factor part c / 2) (input * factor part c))
+  refuse 24 (ltb 4294967295 (input .hz * factor part c))
+  gives (cond (halves part c) (over (times input (factor part c)) 2) (times input (factor part c)))
 
--- PLL from HSI or HSE after the predivider: 3, then 24
-unfoldable pub outputOf : Part → Hse → Setting → Answer ℕ
-outputOf part hse s = do
-  refuse 28 (leb 16 (s .mul))
-  hz ← fromOf (s .source) hse
-  multipliedOf part (hz / (s .less + 1)) (s .mul)
+-- PLL from HSI or HSE after the predivider, code + 1: 28, 3, 24
+unfoldable pub pllOutputOf : Part → HseFrequency → Setting → Answer Frequency
+pllOutputOf part hse s = do
+  refuse 28 (wideSetting (s .prediv) (s .mul))
+  x ← sourceFrequencyOf (s .source) hse
+  multipliedOf part (over x (s .prediv + 1)) (s .mul)
 
 -- the clock of a system clock code: 1 HSE, 2 the PLL, else HSI
-abbrev pub chosen : ℕ → Answer ℕ → Answer ℕ → Answer ℕ
-chosen sys hse pll = cond (eqb sys 1) hse (cond (eqb sys 2) pll (gives 8000000))
+abbrev pub chosen : ℕ → Answer Frequency → Answer Frequency → Answer Frequency
+chosen sys hse pll = cond (eqb sys 1) hse (cond (eqb sys 2) pll hsiOf)
 
 -- system clock PLL, none configured: 26
-abbrev pub configuredOf : Output → Answer ℕ
-configuredOf pll.Absent = refuses 26
-configuredOf (pll.Hz hz) = gives hz
+abbrev pub pllAsSysclkOf : Output → Answer Frequency
+pllAsSysclkOf pll.Absent = refuses 26
+pllAsSysclkOf (pll.At x) = gives x
 
 -- SYSCLK in the check: 20, 3, 26
-unfoldable pub sysclkOf : Hse → Output → ℕ → Answer ℕ
+unfoldable pub sysclkOf : HseFrequency → Output → ℕ → Answer Frequency
 sysclkOf hse out sys = do
   refuse 20 (eqb sys 3)
-  chosen sys (neededOf hse) (configuredOf out)
+  chosen sys (neededHseOf hse) (pllAsSysclkOf out)
 
 -- the USB divisor of the PLL output, for 48 MHz, doubled: V1 48 by 1, 72 by 1.5; L1 also 96 by 2; V30x 48, 96, 144 by 1, 2, 3;
 -- otherwise none
@@ -119,23 +128,23 @@ usbDivisor V30x hz = cond (eqb hz 48000000) 2 (cond (eqb hz 96000000) 4 (cond (e
 
 abbrev pub usbOf : Part → Output → ℕ
 usbOf part pll.Absent = 0
-usbOf part (pll.Hz hz) = usbDivisor part hz
+usbOf part (pll.At x) = usbDivisor part (x .hz)
 
 -- the end of the check
-unfoldable pub finishedOf : Part → Hse → Output → ℕ → ℕ → ℕ → ℕ → Answer (Clocks × ℕ)
-finishedOf part hse out sys ahb apb1 apb2 = do
+unfoldable pub configuredClocksOf : Part → HseFrequency → Output → ℕ → ℕ → ℕ → ℕ → Answer (Clocks × ℕ)
+configuredClocksOf part hse out sys ahb apb1 apb2 = do
   refuse 28 (tooWide sys ahb apb1 apb2)
-  hz ← sysclkOf hse out sys
-  clocks ← clocksOf (familyOf part) hz ahb apb1 apb2
+  x ← sysclkOf hse out sys
+  clocks ← clocksOf (familyOf part) x ahb apb1 apb2
   gives (clocks, usbOf part out)
 
 -- SYSCLK in the decoder: refused only where the clock in use needs it; code 3 is read as HSI
-unfoldable pub readSysclkOf : Part → Hse → Setting → ℕ → Answer ℕ
-readSysclkOf part hse s sws = chosen sws (neededOf hse) (outputOf part hse s)
+unfoldable pub decodedSysclkOf : Part → HseFrequency → Setting → ℕ → Answer Frequency
+decodedSysclkOf part hse s sws = chosen sws (neededHseOf hse) (pllOutputOf part hse s)
 
 -- the end of the decoder
-unfoldable pub decodedOf : Part → Hse → Setting → ℕ → ℕ → ℕ → ℕ → Answer Clocks
-decodedOf part hse s sws hpre ppre1 ppre2 = do
-  refuse 28 (leb 16 (s .mul) || tooWide sws hpre ppre1 ppre2)
-  hz ← readSysclkOf part hse s sws
-  clocksOf (familyOf part) hz hpre ppre1 ppre2
+unfoldable pub decodedClocksOf : Part → HseFrequency → Setting → ℕ → ℕ → ℕ → ℕ → Answer Clocks
+decodedClocksOf part hse s sws hpre ppre1 ppre2 = do
+  refuse 28 (wideSetting (s .prediv) (s .mul) || tooWide sws hpre ppre1 ppre2)
+  x ← decodedSysclkOf part hse s sws
+  clocksOf (familyOf part) x hpre ppre1 ppre2

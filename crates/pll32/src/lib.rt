@@ -1,14 +1,16 @@
 // What CH32V1, CH32L1 and CH32V30x share: the PLL whose product must fit 32 bits, the choice of SYSCLK, and the answer of a check.
 ghost use mathlib.Core.Path.{_≡_};
 ghost use Prim.Native.Nat.{_<_};
-ghost use Rattle.answer.specs.Said.{replied};
-ghost use Rattle.tree.specs.Tree.{running};
-ghost use Rattle.pll32.specs.Pll.{rowOf, familyOf, factor, halves, tooWide, neededOf, fromOf, multipliedOf, outputOf, configuredOf, sysclkOf, usbDivisor, usbOf, finishedOf, accepted, refusedOf, readSysclkOf, decodedOf, sourceOf};
-use answer::Reply;
-use answer::refusal;
+ghost use Rattle.divider.specs.Frequency.{rateSays};
+ghost use Rattle.tree.specs.Tree.{busesSays};
+ghost use Rattle.pll32.specs.Pll.{rowOf, familyOf, factor, halves, tooWide, wideSetting, hseFrequencyOf, hsiOf, neededHseOf, sourceFrequencyOf, multipliedOf, pllOutputOf, pllAsSysclkOf, sysclkOf, usbDivisor, usbOf, configuredClocksOf, checkedSays, refusedOf, decodedSysclkOf, decodedClocksOf, sourceOf};
 use divider::Family;
+use divider::Frequency;
+use divider::Rate;
 use tree::Buses;
 use tree::Clocks;
+use tree::HseFrequency;
+use tree::Output;
 
 // The parts. L1 differs from V1 in one multiplier and one USB divisor.
 pub enum Part {
@@ -29,23 +31,11 @@ pub enum Source {
     Hse,
 }
 
-// How a PLL is set: its source, the predivider less one, and the PLLMUL code.
+// How a PLL is set: its source, the code of its predivider (the divisor less one) and the PLLMUL code. Both codes have four bits.
 pub struct Setting {
     pub source: Source,
-    pub less: u8,
+    pub prediv: u8,
     pub mul: u8,
-}
-
-// The output of a PLL that may not be configured, in Hz.
-pub enum Output {
-    Absent,
-    Hz(u32),
-}
-
-// The output of a configured PLL or of none; or a refusal number.
-pub enum Made {
-    Is(Output),
-    Refused(u8),
 }
 
 // The answer of a check: the six clocks and, apart, the USB divisor of the PLL's output, doubled (1.5 is 3), 0 for none; or the first
@@ -111,83 +101,106 @@ pub fn too_wide(sys: u8, ahb: u8, apb1: u8, apb2: u8) -> bool
     (4 <= sys) | (16 <= ahb) | (8 <= apb1) | (8 <= apb2)
 }
 
-// HSE's frequency, where it is needed.
-fn needed(hse: Hse) -> Reply
-    ensures { λ r. ⌜ replied r ≡ neededOf hse ⌝ }
+// A code of a PLL too wide for its field: of the predivider or of the multiplier.
+pub fn wide_setting(prediv: u8, mul: u8) -> bool
+    ensures { λ r. ⌜ r ≡ wideSetting prediv mul ⌝ }
+{
+    (16 <= prediv) | (16 <= mul)
+}
+
+// The frequency of a configuration's HSE.
+pub fn hse_frequency(hse: Hse) -> HseFrequency
+    ensures { λ r. ⌜ r ≡ hseFrequencyOf hse ⌝ }
 {
     match hse {
-        Hse::Absent => Reply::Refused(answer::HSE_MISSING),
-        Hse::Present { bypass: _, freq } => Reply::Is(freq),
+        Hse::Absent => HseFrequency::Absent,
+        Hse::Present { bypass: _, freq } => HseFrequency::Hz(freq),
+    }
+}
+
+fn hsi() -> Rate
+    ensures { λ r. ⌜ rateSays r ≡ hsiOf ⌝ }
+{
+    Rate::At(divider::hertz(HSI))
+}
+
+// HSE's frequency, where it is needed.
+fn needed_hse(hse: HseFrequency) -> Rate
+    ensures { λ r. ⌜ rateSays r ≡ neededHseOf hse ⌝ }
+{
+    match hse {
+        HseFrequency::Absent => Rate::Refused(answer::HSE_MISSING),
+        HseFrequency::Hz(hz) => Rate::At(divider::hertz(hz)),
     }
 }
 
 // The frequency of a PLL's source.
-pub fn from(source: Source, hse: Hse) -> Reply
-    ensures { λ r. ⌜ replied r ≡ fromOf source hse ⌝ }
+pub fn source_frequency(source: Source, hse: HseFrequency) -> Rate
+    ensures { λ r. ⌜ rateSays r ≡ sourceFrequencyOf source hse ⌝ }
 {
     match source {
-        Source::Hsi => Reply::Is(HSI),
-        Source::Hse => needed(hse),
+        Source::Hsi => hsi(),
+        Source::Hse => needed_hse(hse),
     }
 }
 
 // An input multiplied by a PLLMUL code: the product must fit, then 6.5's is halved.
-fn multiplied(part: Part, input: u32, mul: u8) -> Reply
+fn multiplied(part: Part, input: Frequency, mul: u8) -> Rate
     requires { ⌜ mul < 16 ⌝ }
-    ensures { λ r. ⌜ replied r ≡ multipliedOf part input mul ⌝ }
+    ensures { λ r. ⌜ rateSays r ≡ multipliedOf part input mul ⌝ }
 {
     let by = factor_of(part, mul as usize);
-    let product = (input as u64) * (by as u64);
+    let product = (input.hz as u64) * (by as u64);
     if 4_294_967_295 < product {
-        return Reply::Refused(answer::PLL_OVER_32_BITS);
+        return Rate::Refused(answer::PLL_OVER_32_BITS);
     }
-    let fits = product as u32;
+    let fits = divider::hertz(product as u32);
     if halved(part, mul) {
-        return Reply::Is(divider::by_one_more(fits, 1));
+        return Rate::At(divider::by_one_more(fits, 1));
     }
-    Reply::Is(fits)
+    Rate::At(fits)
 }
 
 // What a PLL makes of its source.
-pub fn pll_output(part: Part, hse: Hse, setting: Setting) -> Reply
-    ensures { λ r. ⌜ replied r ≡ outputOf part hse setting ⌝ }
+pub fn pll_output(part: Part, hse: HseFrequency, setting: Setting) -> Rate
+    ensures { λ r. ⌜ rateSays r ≡ pllOutputOf part hse setting ⌝ }
 {
     let source = setting.source;
     let mul = setting.mul;
-    if 16 <= mul {
-        return Reply::Refused(answer::CODE_NOT_ALLOWED);
+    if wide_setting(setting.prediv, mul) {
+        return Rate::Refused(answer::CODE_NOT_ALLOWED);
     }
-    let feeding = from(source, hse);
-    let Reply::Is(hz) = feeding else {
+    let feeding = source_frequency(source, hse);
+    let Rate::At(x) = feeding else {
         return feeding;
     };
-    multiplied(part, divider::by_one_more(hz, setting.less), mul)
+    multiplied(part, divider::by_one_more(x, setting.prediv), mul)
 }
 
 // The output of a PLL as SYSCLK.
-fn running_pll(output: Output) -> Reply
-    ensures { λ r. ⌜ replied r ≡ configuredOf output ⌝ }
+fn pll_as_sysclk(output: Output) -> Rate
+    ensures { λ r. ⌜ rateSays r ≡ pllAsSysclkOf output ⌝ }
 {
     match output {
-        Output::Absent => Reply::Refused(answer::SYSCLK_WITHOUT_PLL),
-        Output::Hz(hz) => Reply::Is(hz),
+        Output::Absent => Rate::Refused(answer::SYSCLK_WITHOUT_PLL),
+        Output::At(x) => Rate::At(x),
     }
 }
 
 // SYSCLK in a check, of a code of two bits.
-fn sysclk(hse: Hse, output: Output, sys: u8) -> Reply
-    ensures { λ r. ⌜ replied r ≡ sysclkOf hse output sys ⌝ }
+fn sysclk(hse: HseFrequency, output: Output, sys: u8) -> Rate
+    ensures { λ r. ⌜ rateSays r ≡ sysclkOf hse output sys ⌝ }
 {
     if sys == 3 {
-        return Reply::Refused(answer::SYSCLK_RESERVED);
+        return Rate::Refused(answer::SYSCLK_RESERVED);
     }
     if sys == 1 {
-        return needed(hse);
+        return needed_hse(hse);
     }
     if sys == 2 {
-        return running_pll(output);
+        return pll_as_sysclk(output);
     }
-    Reply::Is(HSI)
+    hsi()
 }
 
 // The divisor that makes 48 MHz of a PLL's output, doubled; 0 for none.
@@ -220,30 +233,30 @@ fn usb(part: Part, output: Output) -> u8
 {
     match output {
         Output::Absent => 0,
-        Output::Hz(hz) => usb_divisor(part, hz),
+        Output::At(x) => usb_divisor(part, x.hz),
     }
 }
 
 // The end of a check: SYSCLK, the six clocks and the USB divisor.
-pub fn finished(
+pub fn configured_clocks(
     part: Part,
-    hse: Hse,
+    hse: HseFrequency,
     output: Output,
     sys: u8,
     ahb: u8,
     apb1: u8,
     apb2: u8,
 ) -> Checked
-    ensures { λ r. ⌜ accepted r ≡ finishedOf part hse output sys ahb apb1 apb2 ⌝ }
+    ensures { λ r. ⌜ checkedSays r ≡ configuredClocksOf part hse output sys ahb apb1 apb2 ⌝ }
 {
     if too_wide(sys, ahb, apb1, apb2) {
         return Checked::Refused(answer::CODE_NOT_ALLOWED);
     }
     let system = sysclk(hse, output, sys);
-    let Reply::Is(hz) = system else {
-        return Checked::Refused(refusal(system));
+    let Rate::At(x) = system else {
+        return Checked::Refused(divider::refusal(system));
     };
-    match tree::bus_clocks(family(part), hz, ahb, apb1, apb2) {
+    match tree::bus_clocks(family(part), x, ahb, apb1, apb2) {
         Buses::Refused(n) => Checked::Refused(n),
         Buses::Run(clocks) => Checked::Accepted {
             clocks,
@@ -263,38 +276,38 @@ pub fn refused(checked: Checked) -> u8
 }
 
 // SYSCLK in a decoder: the PLL is looked at only where it is in use, and code 3 is read as HSI.
-fn decoded_sysclk(part: Part, hse: Hse, setting: Setting, sws: u8) -> Reply
-    ensures { λ r. ⌜ replied r ≡ readSysclkOf part hse setting sws ⌝ }
+fn decoded_sysclk(part: Part, hse: HseFrequency, setting: Setting, sws: u8) -> Rate
+    ensures { λ r. ⌜ rateSays r ≡ decodedSysclkOf part hse setting sws ⌝ }
 {
     if sws == 1 {
-        return needed(hse);
+        return needed_hse(hse);
     }
     if sws == 2 {
         return pll_output(part, hse, setting);
     }
-    Reply::Is(HSI)
+    hsi()
 }
 
 // The end of a decoder: SYSCLK and the six clocks.
-pub fn decoded(
+pub fn decoded_clocks(
     part: Part,
-    hse: Hse,
+    hse: HseFrequency,
     setting: Setting,
     sws: u8,
     hpre: u8,
     ppre1: u8,
     ppre2: u8,
 ) -> Buses
-    ensures { λ r. ⌜ running r ≡ decodedOf part hse setting sws hpre ppre1 ppre2 ⌝ }
+    ensures { λ r. ⌜ busesSays r ≡ decodedClocksOf part hse setting sws hpre ppre1 ppre2 ⌝ }
 {
-    if (16 <= setting.mul) | too_wide(sws, hpre, ppre1, ppre2) {
+    if wide_setting(setting.prediv, setting.mul) | too_wide(sws, hpre, ppre1, ppre2) {
         return Buses::Refused(answer::CODE_NOT_ALLOWED);
     }
     let system = decoded_sysclk(part, hse, setting, sws);
-    let Reply::Is(hz) = system else {
-        return Buses::Refused(refusal(system));
+    let Rate::At(x) = system else {
+        return Buses::Refused(divider::refusal(system));
     };
-    tree::bus_clocks(family(part), hz, hpre, ppre1, ppre2)
+    tree::bus_clocks(family(part), x, hpre, ppre1, ppre2)
 }
 
 // The source that a PLLSRC bit names: set, HSE.

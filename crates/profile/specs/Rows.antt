@@ -6,10 +6,12 @@ use mathlib.Core.Bool.{Bool, true, false}
 use mathlib.Core.List.{List, [], _∷_, map}
 use Prim.Native.Nat.{ℕ}
 use Rattle.answer.specs.Answer.{Answer, gives, refuses, _>>=_}
-use Rattle.divider.specs.Divide.{ahbOf, ahbDivisor, ahbDivisors, apbOf, apbDivisor, byAhbOf, byApbOf}
+use Rattle.divider.specs.Divide.{ahbOf, ahbDivisor, ahbDivisors, apbOf, apbDivisor, byAhbOf, apbQuotientOf}
+use Rattle.divider.specs.Frequency.{over}
 use Rattle.tree.specs.declared.Clocks.{Clocks}
 use Rattle.tree.specs.Tree.{clocksOf, belowOf, busOf, timerClock}
-use Rattle.v4x7_rules.specs.Rules.{hseOf, mainPllOf, ethPllOf, referenceCodeOf, sysPllOf, busesOf, totalOf, adcFromHclkOf, adcFromUsbHsOf}
+use Rattle.v4x7_rules.specs.Rules.{hseInRange, usedHseOf, mainPllInput, mainPllOf, ethPllOf, referenceCodeOf, twoThirds, sysPllOf, busesOf}
+use Rattle.v4x7_rules.specs.Rules.{totalOf, adcFromHclkOf, adcFromUsbHsOf}
 use Rattle.v4x7.specs.declared.Hse.{Hse}
 use Rattle.v4x7.specs.declared.Hse.the-variants as hse
 use Rattle.v4x7.specs.declared.Pll.{Pll}
@@ -20,9 +22,9 @@ use Rattle.v4x7.specs.declared.AdcClockSource.{AdcClockSource}
 use Rattle.v4x7.specs.declared.AdcClockSource.the-variants as source
 use Rattle.v4x7.specs.declared.Config.{Config}
 use Rattle.v4x7.specs.Check.{checkOf, named, sourcesOf, rngOf, hsePresentOf, mainOf, ethOf}
-use Rattle.v4x7.specs.Check.{usbHsOf, referenceOf, sysclkOf, inputOf, adcRatioOf, limitsOf, adcOf}
+use Rattle.v4x7.specs.Check.{usbHsOf, referenceOf, sysPllInputOf, sysclkOf, systemOf, adcRatioOf, limitsOf, adcOf}
 use Rattle.layout.specs.Bits.{bitsAt}
-use Rattle.profile.specs.Profile.{readProfile, tests, rawOf, hseFields, pllFields, busFields, adcFields, configOf}
+use Rattle.profile.specs.Profile.{readProfile, tests, configOf}
 
 -- The parts of a configuration that rows name: HSE, main PLL with its source, system clock, SYSPLL source with its divisor less one, USBHS PLL,
 -- ETH PLL, AHB, APB2, ADC source, ADC prescaler; all by their codes.
@@ -173,7 +175,22 @@ wanted r = (gives (config (r .parts)), r .says)
 
 pub rows-hold : map found rows ≡ map wanted rows
 unfolding found wanted rows row config default hseAt mainPll system sysPll usbHsPll ethPll ahb apb2 adcFrom adcBy sysclk hclk adc slow seven
-    readProfile tests rawOf hseFields pllFields busFields adcFields configOf bitsAt checkOf named sourcesOf rngOf hsePresentOf hseOf mainOf
-    mainPllOf ethOf ethPllOf usbHsOf referenceOf referenceCodeOf sysclkOf inputOf sysPllOf busesOf clocksOf belowOf busOf timerClock adcOf
-    adcRatioOf limitsOf adcFromHclkOf adcFromUsbHsOf totalOf ahbOf ahbDivisor ahbDivisors apbOf apbDivisor byAhbOf byApbOf
+    readProfile tests configOf bitsAt checkOf named sourcesOf rngOf hsePresentOf hseInRange usedHseOf mainOf mainPllOf mainPllInput
+    ethOf ethPllOf usbHsOf referenceOf referenceCodeOf systemOf sysclkOf sysPllInputOf sysPllOf twoThirds busesOf clocksOf belowOf busOf timerClock adcOf
+    adcRatioOf limitsOf adcFromHclkOf adcFromUsbHsOf totalOf ahbOf ahbDivisor ahbDivisors apbDivisor byAhbOf apbQuotientOf apbOf over
 rows-hold = refl
+
+-- Rows A11 and A2 whole, from their bytes to the check's answer.
+
+pub a11 : (_>>=_ (readProfile (0x00 ∷ 0x00 ∷ 0x00 ∷ 0x00 ∷ 0x00 ∷ 0x18 ∷ 0x00 ∷ 0x00 ∷ 0x00 ∷ 0x34 ∷ [])) checkOf) ≡ gives (
+  record { sysclk = 20000000; hclk = 20000000; pclk1 = 20000000; pclk2 = 20000000; «pclk1_tim» = 20000000; «pclk2_tim» = 20000000 },
+  2500000,
+)
+unfolding readProfile tests configOf bitsAt checkOf named sourcesOf rngOf hsePresentOf mainOf ethOf usbHsOf systemOf sysclkOf
+    busesOf clocksOf belowOf busOf timerClock adcOf adcRatioOf limitsOf adcFromHclkOf totalOf ahbOf ahbDivisor ahbDivisors apbDivisor byAhbOf apbQuotientOf
+    apbOf over
+a11 = refl
+
+pub a2 : (_>>=_ (readProfile (0x80 ∷ 0x13 ∷ 0x12 ∷ 0xCF ∷ 0xC0 ∷ 0x18 ∷ 0x00 ∷ 0x00 ∷ 0x00 ∷ 0x34 ∷ [])) checkOf) ≡ refuses 4
+unfolding readProfile tests configOf bitsAt checkOf named systemOf sourcesOf rngOf hsePresentOf hseInRange
+a2 = refl

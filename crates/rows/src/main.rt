@@ -1,6 +1,6 @@
 // Answers a list of inputs one after another: each is a length byte and so many bytes. What it writes is what the program `clocks` writes for each.
 ghost use Prim.Native.Nat.{_<_};
-use report::Reported;
+use text::Put;
 
 fn wide(x: u8) -> usize
     ensures { λ r. ⌜ r < 256 ⌝ }
@@ -10,8 +10,8 @@ fn wide(x: u8) -> usize
 
 // Writes the answer to an input. Every text has room: the seven lines take 125 bytes at most.
 fn answer(input: &[u8]) -> bool {
-    let mut out = [0u8; 128];
-    let Reported::Written(n) = report::report(input, &mut out) else {
+    let mut out = [0u8; 125];
+    let Put::At(n) = report::report(input, &mut out) else {
         return false;
     };
     io::write_all(1, &out[..n])

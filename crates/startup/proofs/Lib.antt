@@ -1,2 +1,3 @@
-pub mod Skip
+pub mod Codes
+pub mod Shape
 pub mod Cases

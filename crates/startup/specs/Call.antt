@@ -1,21 +1,22 @@
--- The startup of document 01, "Startup steps": starting, and one call. The steps are the list of `steps`; one small machine works them.
+-- The startup of document 01, "Startup steps": starting, and one call. The steps are those of Steps.antt; one small machine works them.
 -- Assumes nothing.
 use Prim.Native.Nat.{ℕ, suc, zero, _+_, _*_, _%_}
 use mathlib.Core.Path.{_≡_, _∙_, refl, sym}
-use mathlib.Core.Bool.{Bool, true, false, cond, not, _||_}
+use mathlib.Core.Bool.{Bool, cond, not, _||_}
 use mathlib.Core.List.{List, [], _∷_}
 use lib.Dec.{ltb, leb, eqb}
-use lib.ListN.{drop}
 use lib.Count.{ones}
 use Rattle.answer.specs.Answer.{Answer, gives, refuses, refuse, _>>=_, _>>_, settled-by}
 use Rattle.tree.specs.declared.Clocks.{Clocks}
 use Rattle.v4x7.specs.declared.Config.{Config}
-use Rattle.v4x7.specs.Check.{namedOf, checkOf}
+use Rattle.v4x7.specs.Check.{namedOf, checkOf, hasHse, hasUsbHs, hasMain}
 use Rattle.image.specs.declared.Seen.{Seen}
 use Rattle.image.specs.declared.Fields.{Fields}
 use Rattle.image.specs.Image.{inWidth}
-use Rattle.steps.specs.Writes.{withSeen}
-use Rattle.steps.specs.Steps.{Op, write, wait, flash, compare, Entry, entry, hasHse, hasUsbHs, hasMain, steps, from, onIn}
+use Rattle.startup.specs.Writes.{withSeen}
+use Rattle.startup.specs.declared.steps.Work.{Work}
+use Rattle.startup.specs.declared.steps.Work.the-variants.{Wrote, Waits, Reads, Compares, NotListed}
+use Rattle.startup.specs.Steps.{listedOf, nextOf, workOf}
 use Rattle.startup.specs.declared.Reading.{Reading}
 use Rattle.startup.specs.declared.Report.{Report}
 use Rattle.startup.specs.declared.Report.the-variants.{Worked, Waiting, Running, Failed, Refused}
@@ -71,65 +72,76 @@ modeRead r = r .sckmod % 4
 abbrev pub going : Config → Fields → ℕ → ℕ → ℕ → Startup
 going c f step unmet used = record { config = c; fields = f; step = step; unmet = unmet; used = used; phase = Going }
 
+-- Answered 28 and handed back as it was.
+abbrev pub handedBack : Startup → Stepped
+handedBack s = record { startup = s; report = Refused 28 }
+
+-- The step is worked, and the next one's turn comes.
+abbrev pub moved : ℕ → Startup → Fields → ℕ → Stepped
+moved next s f used = record { startup = going (s .config) f next 0 used; report = Worked (s .step) used }
+
 -- A startup that is over, with its last answer.
 abbrev pub ended : Startup → Fields → ℕ → ℕ → Report → Stepped
 ended s f unmet used last =
     record { startup = record { config = s .config; fields = f; step = s .step; unmet = unmet; used = used; phase = Over last }; report = last }
 
--- Answered 28 and handed back as it was.
-abbrev pub handedBack : Startup → Stepped
-handedBack s = record { startup = s; report = Refused 28 }
+-- What a call of a startup that is not over comes to.
+pub data Event : Type 0 where
+  -- handed back (28)
+  back : Event
+  -- the step's writes are done
+  wrote : Fields → Event
+  -- the reading meets the step's wait, or shows the flash mode
+  met : Event
+  -- the reading doesn't meet the wait,
+  waiting : Event
+  -- and is the last that it has: the wait failed (21)
+  missed : Event
+  -- the flash mode read back differs (22)
+  misread : Event
+  -- the clocks are compared after the switch: whether they are the same (23)
+  compared : Bool → Event
 
--- How many steps of absent parts a list begins with: these are skipped.
-abbrev pub skipped : List Entry → ℕ
-skipped [] = 0
-skipped (entry true o ∷ l) = 0
-skipped (entry false o ∷ l) = suc (skipped l)
+-- The startup then, and the answer. `next` is the step whose turn comes, f the fields with the reading's ready bits and SWS.
+abbrev pub cameTo : ℕ → Startup → Fields → Event → Stepped
+cameTo next s f back = handedBack s
+cameTo next s f (wrote g) = moved next s g (s .used)
+cameTo next s f met = moved next s f (s .used + 1)
+cameTo next s f waiting =
+    record { startup = going (s .config) f (s .step) (s .unmet + 1) (s .used + 1); report = Waiting (s .step) (s .used + 1) }
+cameTo next s f missed = ended s f (s .unmet + 1) (s .used + 1) (Failed 21 (s .step) (s .used + 1))
+cameTo next s f misread = ended s f (s .unmet) (s .used + 1) (Failed 22 (s .step) (s .used + 1))
+cameTo next s f (compared same) = ended s (s .fields) (s .unmet) (s .used) (cond same (Running (s .step) (s .used)) (Refused 23))
 
--- The step is worked, and the next one's turn comes; l is the list behind the step.
-abbrev pub moved : Startup → List Entry → Fields → ℕ → Stepped
-moved s l f used = record { startup = going (s .config) f (s .step + 1 + skipped l) 0 used; report = Worked (s .step) used }
+-- A wait: its unmet readings pass 999,999 (28); a met reading is used up; it fails at its 1,000,000th unmet reading (21).
+abbrev pub waitedOf : ℕ → ℕ → Bool → Event
+waitedOf limit unmet ok = cond (leb limit unmet) back (cond ok met (cond (ltb (unmet + 1) limit) waiting missed))
 
--- A wait fails at its 1,000,000th unmet reading (21 and the step).
-abbrev pub unmetOf : ℕ → Startup → Fields → Stepped
-unmetOf limit s f =
-    cond (ltb (s .unmet + 1) limit)
-    (record { startup = going (s .config) f (s .step) (s .unmet + 1) (s .used + 1); report = Waiting (s .step) (s .used + 1) })
-    (ended s f (s .unmet + 1) (s .used + 1) (Failed 21 (s .step) (s .used + 1)))
-
--- A wait: its unmet readings pass 999,999 (28); a met reading is used up.
-abbrev pub waitedOf : ℕ → Startup → List Entry → Fields → Bool → Stepped
-waitedOf limit s l f met = cond (leb limit (s .unmet)) (handedBack s) (cond met (moved s l f (s .used + 1)) (unmetOf limit s f))
-
--- Step 21's reading of SCKMOD (22 and the step).
-abbrev pub readBackOf : Startup → List Entry → Fields → Bool → Stepped
-readBackOf s l f right = cond right (moved s l f (s .used + 1)) (ended s f (s .unmet) (s .used + 1) (Failed 22 (s .step) (s .used + 1)))
-
--- Step 28's comparison (23).
-abbrev pub comparedOf : Startup → Bool → Stepped
-comparedOf s same =
-    cond same (ended s (s .fields) (s .unmet) (s .used) (Running (s .step) (s .used))) (ended s (s .fields) (s .unmet) (s .used) (Refused 23))
-
--- One step's work done or one reading used. A used reading's ready bits and SWS go into the fields; its SCKMOD is only compared.
-abbrev pub workedOf : ℕ → Startup → Reading → List Entry → Op → Stepped
-workedOf limit s r l (write w) = moved s l (w (s .fields)) (s .used)
-workedOf limit s r l (wait p) = waitedOf limit s l (withSeen (s .fields) (seenOf r)) (p (seenOf r))
-workedOf limit s r l (flash mode) = readBackOf s l (withSeen (s .fields) (seenOf r)) (eqb (modeRead r) mode)
-workedOf limit s r l (compare same) = comparedOf s (same (s .fields))
-
-abbrev pub worksIn : ℕ → Startup → Reading → List Entry → Stepped
-worksIn limit s r [] = handedBack s
-worksIn limit s r (entry b o ∷ l) = workedOf limit s r l o
+-- One step's work done or one reading used.
+abbrev pub eventOf : ℕ → Startup → Reading → Work → Event
+eventOf limit s r (Wrote f) = wrote f
+eventOf limit s r (Waits ok) = waitedOf limit (s .unmet) ok
+eventOf limit s r (Reads mode) = cond (eqb (modeRead r) mode) met misread
+eventOf limit s r (Compares same) = compared same
+eventOf limit s r NotListed = back
 
 -- Its step is not listed or is skipped, or its used readings pass 8,000,001: 28.
-unfoldable pub callIn : ℕ → Startup → Reading → List Entry → Stepped
-callIn limit s r l = cond (not (onIn l) || ltb 8000001 (s .used)) (handedBack s) (worksIn limit s r l)
+unfoldable pub callOf : ℕ → Startup → Reading → Bool → Work → Event
+callOf limit s r listed work = cond (not listed || ltb 8000001 (s .used)) back (eventOf limit s r work)
+
+-- The check having promised these clocks.
+abbrev pub comesTo : Clocks → Startup → Reading → Event
+comesTo promised s r = callOf 1000000 s r (listedOf (s .config) (s .step)) (workOf (s .config) promised (s .step) (s .fields) (seenOf r))
+
+-- A used reading's ready bits and SWS go into the fields; its SCKMOD is only compared.
+abbrev pub seeing : Startup → Reading → Fields
+seeing s r = withSeen (s .fields) (seenOf r)
 
 -- After the end a call changes nothing and repeats the last answer; not over, a configuration that is not accepted is answered 28.
 abbrev pub stepBy : Answer (Clocks × ℕ) → Startup → Reading → Phase → Stepped
 stepBy check s r (Over last) = record { startup = s; report = last }
 stepBy (refuses n) s r Going = handedBack s
-stepBy (gives x) s r Going = callIn 1000000 s r (from (s .step) (steps (s .config) (x .0)))
+stepBy (gives x) s r Going = cameTo (nextOf (s .config) (s .step)) s (seeing s r) (comesTo (x .0) s r)
 
 -- One call: 28 for a code before anything else, without a name in the configuration or too wide in the fields.
 unfoldable pub stepOf : Startup → Reading → Stepped
@@ -143,9 +155,9 @@ startOf c earlier = do
   checkOf c
   gives (going c earlier 1 0 0)
 
-abbrev pub begun : Started → Answer Startup
-begun (started.Begun s) = gives s
-begun (started.NotStarted n) = refuses n
+abbrev pub startedSays : Started → Answer Startup
+startedSays (started.Begun s) = gives s
+startedSays (started.NotStarted n) = refuses n
 
 -- Nothing is left open: two results that a promise allows are equal.
 
@@ -153,20 +165,16 @@ startedOf : Answer Startup → Started
 startedOf (gives s) = started.Begun s
 startedOf (refuses n) = started.NotStarted n
 
-started-again : (r : Started) → startedOf (begun r) ≡ r
+started-again : (r : Started) → startedOf (startedSays r) ≡ r
 unfolding startedOf
 started-again (started.Begun s) = refl
 started-again (started.NotStarted n) = refl
 
-pub started-settled : (r s : Started) → begun r ≡ begun s → r ≡ s
-started-settled = settled-by begun startedOf started-again
+pub started-settled : (r s : Started) → startedSays r ≡ startedSays s → r ≡ s
+started-settled = settled-by startedSays startedOf started-again
 
 pub stepped-settled : (s : Startup) (r : Reading) (x y : Stepped) → x ≡ stepOf s r → y ≡ stepOf s r → x ≡ y
 stepped-settled s r x y e g = e ∙ sym g
-
--- The next step whose part is present.
-unfoldable pub nextOf : Config → Clocks → ℕ → ℕ
-nextOf c promised k = k + 1 + skipped (drop k (steps c promised))
 
 -- The four-bit mask of what the startup turns on: HSE, ETH PLL, USBHS PLL, main PLL.
 abbrev pub maskOf : Config → ℕ

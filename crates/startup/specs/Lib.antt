@@ -1,2 +1,7 @@
+pub mod Writes
+pub mod Steps
 pub mod Call
+pub mod View
 pub mod Owed
+pub mod Laws
+pub mod Order

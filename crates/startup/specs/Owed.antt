@@ -7,8 +7,7 @@ use native.Mathlib.Omega.{arith}
 use lib.Count.{ones, onesIn}
 use Rattle.answer.specs.Answer.{gives, passed}
 use Rattle.v4x7.specs.declared.Config.{Config}
-use Rattle.v4x7.specs.Check.{namedOf}
-use Rattle.steps.specs.Steps.{hasHse, hasUsbHs, hasMain}
+use Rattle.v4x7.specs.Check.{namedOf, hasHse, hasUsbHs, hasMain}
 use Rattle.startup.specs.Call.{maskOf, waitsOwedOf}
 
 abbrev pub bitOf : Bool → ℕ

@@ -1,18 +1,21 @@
 // The stepwise startup of the V4x7 clocks. A host starts it with a configuration and the fields as they are, then calls `step` with a reading
 // each time, writes the fields that come back to the chip, and goes on until the report says that the startup is running, failed or refused.
+mod steps;
+
 ghost use mathlib.Core.Path.{_≡_};
 ghost use mathlib.Core.Bool.{cond};
-ghost use Prim.Native.Nat.{_+_, _*_, _≤_, _<_};
-ghost use lib.ListN.{drop};
-ghost use Rattle.answer.specs.Said.{replied};
-ghost use Rattle.tree.specs.declared.Clocks.{Clocks};
-ghost use Rattle.steps.specs.Writes.{withSeen};
-ghost use Rattle.steps.specs.Steps.{steps, from};
-ghost use Rattle.startup.specs.Call.{numberOf, namedStep, seenOf, ended, handedBack, moved, unmetOf, waitedOf, readBackOf, comparedOf, worksIn, stepOf, startOf, begun, nextOf, maskOf, waitsOwedOf, callBoundOf, keyOf};
+ghost use lib.Dec.{ltb};
+ghost use Prim.Native.Nat.{_+_, _≤_, _<_};
+ghost use Rattle.answer.specs.Said.{replySays};
+ghost use Rattle.startup.specs.Writes.{withSeen};
+ghost use Rattle.startup.specs.Steps.{nextOf, workOf};
+ghost use Rattle.startup.specs.Call.{numberOf, namedStep, seenOf, handedBack, moved, ended, met, waiting, missed, misread, compared, cameTo, waitedOf, eventOf, seeing, stepOf, startOf, startedSays, maskOf, waitsOwedOf, callBoundOf, keyOf};
 use answer::Reply;
 use image::Fields;
 use image::Seen;
 use steps::Work;
+use steps::listed;
+use steps::perform;
 use tree::Clocks;
 use v4x7::Checked;
 use v4x7::Config;
@@ -136,15 +139,12 @@ fn bit(on: bool, weight: u32) -> u32
 fn mask(c: Config) -> u32
     ensures { λ r. ⌜ r ≡ maskOf c ⌝ }
 {
-    bit(steps::listed(c, 9), 8)
-        + bit(steps::listed(c, 11), 4)
-        + bit(steps::listed(c, 14), 2)
-        + bit(steps::listed(c, 17), 1)
+    bit(listed(c, 9), 8) + bit(listed(c, 11), 4) + bit(listed(c, 14), 2) + bit(listed(c, 17), 1)
 }
 
 // How many waits a configuration's startup has: four, and one for each bit of the mask. 28 for a code without a name.
 pub fn waits_owed(c: Config) -> Reply
-    ensures { λ r. ⌜ replied r ≡ waitsOwedOf c ⌝ }
+    ensures { λ r. ⌜ replySays r ≡ waitsOwedOf c ⌝ }
 {
     if !v4x7::named_codes(c) {
         return Reply::Refused(answer::CODE_NOT_ALLOWED);
@@ -155,7 +155,7 @@ pub fn waits_owed(c: Config) -> Reply
 
 // The startup is over within so many calls. 28 for a code without a name.
 pub fn call_bound(c: Config) -> Reply
-    ensures { λ r. ⌜ replied r ≡ callBoundOf c ⌝ }
+    ensures { λ r. ⌜ replySays r ≡ callBoundOf c ⌝ }
 {
     let owed = waits_owed(c);
     let Reply::Is(waits) = owed else {
@@ -175,7 +175,7 @@ fn seen_of(reading: Reading) -> Seen
     seen
 }
 
-fn seeing(fields: Fields, seen: Seen) -> Fields
+fn with_seen(fields: Fields, seen: Seen) -> Fields
     ensures { λ r. ⌜ r ≡ withSeen fields seen ⌝ }
 {
     let mut f = fields;
@@ -195,23 +195,21 @@ fn handed_back(s: Startup) -> Stepped
 
 // The next step whose part is there.
 fn next(config: Config, step: u8) -> u8
-    requires { ⌜ step < 28 ⌝ }
-    ensures { λ r. ⌜ ((promised : Clocks) → r ≡ nextOf config promised step) ⌝ }
+    ensures { λ r. ⌜ r ≡ nextOf config step ⌝ }
 {
-    let mut n = step + 1;
+    let mut n = step;
     while n < 28 {
-        if steps::listed(config, n) {
+        n += 1;
+        if listed(config, n) {
             return n;
         }
-        n += 1;
     }
     n
 }
 
 // The step is worked: on to the next, with these fields and so many readings used.
 fn onward(s: Startup, fields: Fields, used: u32) -> Stepped
-    requires { ⌜ s .step < 28 ⌝ }
-    ensures { λ r. ⌜ ((promised : Clocks) → r ≡ moved s (drop (s .step) (steps (s .config) promised)) fields used) ⌝ }
+    ensures { λ r. ⌜ r ≡ moved (nextOf (s .config) (s .step)) s fields used ⌝ }
 {
     let config = s.config;
     let step = s.step;
@@ -249,7 +247,7 @@ fn over(s: Startup, fields: Fields, unmet: u32, used: u32, last: Report) -> Step
 // A reading did not meet the step's wait, which fails at the last of its readings.
 fn unmet(s: Startup, fields: Fields) -> Stepped
     requires { ⌜ (s .unmet < 1000000) × (s .used ≤ 8000001) ⌝ }
-    ensures { λ r. ⌜ r ≡ unmetOf 1000000 s fields ⌝ }
+    ensures { λ r. ⌜ r ≡ cameTo (nextOf (s .config) (s .step)) s fields (cond (ltb (s .unmet + 1) 1000000) waiting missed) ⌝ }
 {
     let config = s.config;
     let step = s.step;
@@ -277,8 +275,8 @@ fn unmet(s: Startup, fields: Fields) -> Stepped
 }
 
 fn waited(s: Startup, fields: Fields, met: bool) -> Stepped
-    requires { ⌜ (s .step < 28) × (s .used ≤ 8000001) ⌝ }
-    ensures { λ r. ⌜ ((promised : Clocks) → r ≡ waitedOf 1000000 s (drop (s .step) (steps (s .config) promised)) fields met) ⌝ }
+    requires { ⌜ s .used ≤ 8000001 ⌝ }
+    ensures { λ r. ⌜ r ≡ cameTo (nextOf (s .config) (s .step)) s fields (waitedOf 1000000 (s .unmet) met) ⌝ }
 {
     if READINGS <= s.unmet {
         return handed_back(s);
@@ -290,8 +288,8 @@ fn waited(s: Startup, fields: Fields, met: bool) -> Stepped
 }
 
 fn read_back(s: Startup, fields: Fields, right: bool) -> Stepped
-    requires { ⌜ (s .step < 28) × (s .used ≤ 8000001) ⌝ }
-    ensures { λ r. ⌜ ((promised : Clocks) → r ≡ readBackOf s (drop (s .step) (steps (s .config) promised)) fields right) ⌝ }
+    requires { ⌜ s .used ≤ 8000001 ⌝ }
+    ensures { λ r. ⌜ r ≡ cameTo (nextOf (s .config) (s .step)) s fields (cond right met misread) ⌝ }
 {
     let step = s.step;
     let used = s.used + 1;
@@ -306,8 +304,8 @@ fn read_back(s: Startup, fields: Fields, right: bool) -> Stepped
     over(s, fields, s.unmet, used, last)
 }
 
-fn compared(s: Startup, same: bool) -> Stepped
-    ensures { λ r. ⌜ r ≡ comparedOf s same ⌝ }
+fn compare(s: Startup, same: bool) -> Stepped
+    ensures { λ r. ⌜ r ≡ cameTo (nextOf (s .config) (s .step)) s (s .fields) (compared same) ⌝ }
 {
     let fields = s.fields;
     let step = s.step;
@@ -327,16 +325,16 @@ fn compared(s: Startup, same: bool) -> Stepped
 // One step's work done or one reading used, the check having promised these clocks.
 fn work(s: Startup, promised: Clocks, reading: Reading) -> Stepped
     requires { ⌜ s .used ≤ 8000001 ⌝ }
-    ensures { λ r. ⌜ r ≡ worksIn 1000000 s reading (from (s .step) (steps (s .config) promised)) ⌝ }
+    ensures { λ r. ⌜ r ≡ cameTo (nextOf (s .config) (s .step)) s (seeing s reading) (eventOf 1000000 s reading (workOf (s .config) promised (s .step) (s .fields) (seenOf reading))) ⌝ }
 {
     let config = s.config;
     let fields = s.fields;
     let seen = seen_of(reading);
-    match steps::perform(config, promised, s.step, fields, seen) {
+    match perform(config, promised, s.step, fields, seen) {
         Work::Wrote(written) => onward(s, written, s.used),
-        Work::Waits(met) => waited(s, seeing(fields, seen), met),
-        Work::Reads(mode) => read_back(s, seeing(fields, seen), reading.sckmod % 4 == mode),
-        Work::Compares(same) => compared(s, same),
+        Work::Waits(met) => waited(s, with_seen(fields, seen), met),
+        Work::Reads(mode) => read_back(s, with_seen(fields, seen), reading.sckmod % 4 == mode),
+        Work::Compares(same) => compare(s, same),
         Work::NotListed => handed_back(s),
     }
 }
@@ -344,7 +342,7 @@ fn work(s: Startup, promised: Clocks, reading: Reading) -> Stepped
 impl Startup {
     // Starting: 28 for a code, then the check's refusals; it works no step.
     pub fn start(config: Config, earlier: Fields) -> Started
-        ensures { λ r. ⌜ begun r ≡ startOf config earlier ⌝ }
+        ensures { λ r. ⌜ startedSays r ≡ startOf config earlier ⌝ }
     {
         if !image::in_width(earlier) {
             return Started::NotStarted(answer::CODE_NOT_ALLOWED);
@@ -383,7 +381,7 @@ impl Startup {
         let Checked::Accepted { clocks, adc: _ } = checked else {
             return handed_back(self);
         };
-        if !steps::listed(config, self.step) | (MOST_READINGS < self.used) {
+        if !listed(config, self.step) | (MOST_READINGS < self.used) {
             return handed_back(self);
         }
         work(self, clocks, reading)

@@ -1,9 +1,10 @@
 // The clock tree below SYSCLK, and the product of a PLL.
 ghost use mathlib.Core.Path.{_≡_};
-ghost use Rattle.tree.specs.Tree.{doubles, onBus, busOf, running, belowOf, clocksOf, productOf};
-use answer::Reply;
-use answer::refusal;
+ghost use Rattle.tree.specs.Tree.{doubles, busSays, busOf, busesSays, belowOf, clocksOf, productOf, wideSays};
 use divider::Family;
+use divider::Frequency;
+use divider::Quotient;
+use divider::Rate;
 
 // The six clocks, in Hz.
 pub struct Clocks {
@@ -23,7 +24,30 @@ pub enum Buses {
 
 // One bus: its clock and its timers' clock, or a refusal number.
 pub enum Bus {
-    Run { pclk: u32, tim: u32 },
+    Run { pclk: Frequency, tim: u32 },
+    Refused(u8),
+}
+
+// HSE's frequency in Hz, where there is an HSE.
+pub enum HseFrequency {
+    Absent,
+    Hz(u32),
+}
+
+// What a PLL makes, in Hz.
+pub struct Wide {
+    pub hz: u64,
+}
+
+// The output of a PLL, where one is configured.
+pub enum Output {
+    Absent,
+    At(Frequency),
+}
+
+// The output of a configured PLL or of none; or a refusal number.
+pub enum Made {
+    Is(Output),
     Refused(u8),
 }
 
@@ -40,34 +64,32 @@ fn doubling(family: Family) -> bool
 }
 
 // A bus that divides HCLK by the divisor of a code. Its timers go by the divisor and not by comparing the frequencies, which may both be 0.
-fn apb_bus(family: Family, hclk: u32, code: u8) -> Bus
-    ensures { λ r. ⌜ onBus r ≡ busOf family hclk code ⌝ }
+fn apb_bus(family: Family, hclk: Frequency, code: u8) -> Bus
+    ensures { λ r. ⌜ busSays r ≡ busOf family hclk code ⌝ }
 {
-    let divisor = divider::apb(code);
-    let Reply::Is(d) = divisor else {
-        return Bus::Refused(refusal(divisor));
-    };
-    let divided = divider::by_apb(hclk, code);
-    let Reply::Is(pclk) = divided else {
-        return Bus::Refused(refusal(divided));
-    };
-    if d == 1 {
-        return Bus::Run { pclk, tim: pclk };
-    }
-    let twice = doubling(family);
-    if twice {
-        Bus::Run {
-            pclk,
-            tim: 2 * pclk,
+    match divider::apb_quotient(hclk, code) {
+        Quotient::Refused(n) => Bus::Refused(n),
+        Quotient::By {
+            divisor,
+            frequency: pclk,
+        } => {
+            if divisor == 1 {
+                return Bus::Run { pclk, tim: pclk.hz };
+            }
+            let twice = doubling(family);
+            if twice {
+                let tim = 2 * pclk.hz;
+                Bus::Run { pclk, tim }
+            } else {
+                Bus::Run { pclk, tim: pclk.hz }
+            }
         }
-    } else {
-        Bus::Run { pclk, tim: pclk }
     }
 }
 
 // The clocks of a SYSCLK and an HCLK: the two buses and their timers.
-pub fn below_hclk(family: Family, sysclk: u32, hclk: u32, apb1: u8, apb2: u8) -> Buses
-    ensures { λ r. ⌜ running r ≡ belowOf family sysclk hclk apb1 apb2 ⌝ }
+pub fn below_hclk(family: Family, sysclk: Frequency, hclk: Frequency, apb1: u8, apb2: u8) -> Buses
+    ensures { λ r. ⌜ busesSays r ≡ belowOf family sysclk hclk apb1 apb2 ⌝ }
 {
     match apb_bus(family, hclk, apb1) {
         Bus::Refused(n) => Buses::Refused(n),
@@ -80,10 +102,10 @@ pub fn below_hclk(family: Family, sysclk: u32, hclk: u32, apb1: u8, apb2: u8) ->
                 pclk: pclk2,
                 tim: pclk2_tim,
             } => Buses::Run(Clocks {
-                sysclk,
-                hclk,
-                pclk1,
-                pclk2,
+                sysclk: sysclk.hz,
+                hclk: hclk.hz,
+                pclk1: pclk1.hz,
+                pclk2: pclk2.hz,
                 pclk1_tim,
                 pclk2_tim,
             }),
@@ -92,19 +114,19 @@ pub fn below_hclk(family: Family, sysclk: u32, hclk: u32, apb1: u8, apb2: u8) ->
 }
 
 // The clocks of a SYSCLK, by the codes of AHB, APB1 and APB2.
-pub fn bus_clocks(family: Family, sysclk: u32, ahb: u8, apb1: u8, apb2: u8) -> Buses
-    ensures { λ r. ⌜ running r ≡ clocksOf family sysclk ahb apb1 apb2 ⌝ }
+pub fn bus_clocks(family: Family, sysclk: Frequency, ahb: u8, apb1: u8, apb2: u8) -> Buses
+    ensures { λ r. ⌜ busesSays r ≡ clocksOf family sysclk ahb apb1 apb2 ⌝ }
 {
-    let divided = divider::by_ahb(family, sysclk, ahb);
-    let Reply::Is(hclk) = divided else {
-        return Buses::Refused(refusal(divided));
-    };
-    below_hclk(family, sysclk, hclk, apb1, apb2)
+    match divider::by_ahb(family, sysclk, ahb) {
+        Rate::Refused(n) => Buses::Refused(n),
+        Rate::At(hclk) => below_hclk(family, sysclk, hclk, apb1, apb2),
+    }
 }
 
 // What a PLL makes of its input, by its multiplier doubled: the product first, then the half.
-pub fn product(input: u32, doubled: u8) -> u64
-    ensures { λ r. ⌜ r ≡ productOf input doubled ⌝ }
+pub fn product(input: Frequency, doubled: u8) -> Wide
+    ensures { λ r. ⌜ wideSays r ≡ productOf input doubled ⌝ }
 {
-    (input as u64) * (doubled as u64) / 2
+    let twice = (input.hz as u64) * (doubled as u64);
+    Wide { hz: twice / 2 }
 }

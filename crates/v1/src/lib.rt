@@ -1,17 +1,18 @@
 // CH32V1 and CH32L1: the clock configuration and its check, the fields that starting it leaves, and their decoder.
 ghost use mathlib.Core.Path.{_≡_};
-ghost use Rattle.tree.specs.Tree.{running};
-ghost use Rattle.pll32.specs.Pll.{outputs, accepted};
-ghost use Rattle.v1.specs.V1.{partOf, lessOf, widePll, wideConfig, settingOf, pllOf, checkOf, wideFields, lessIn, settingIn, decodeOf, pllFields, writtenOf, fieldsOf, written};
-use answer::Reply;
+ghost use Rattle.tree.specs.Tree.{busesSays, madeSays};
+ghost use Rattle.pll32.specs.Pll.{checkedSays};
+ghost use Rattle.v1.specs.V1.{partOf, predivCode, widePll, wideConfig, settingOf, configuredPllOf, checkOf, wideFields, predivCodeIn, settingIn, decodeOf, pllFields, writtenOf, fieldsOf, writtenSays};
+use divider::Rate;
 use pll32::Checked;
 use pll32::Hse;
-use pll32::Made;
-use pll32::Output;
 use pll32::Part;
 use pll32::Setting;
 use pll32::Source;
 use tree::Buses;
+use tree::HseFrequency;
+use tree::Made;
+use tree::Output;
 
 // The two chips, which differ in a multiplier and a USB divisor.
 pub enum Chip {
@@ -68,9 +69,9 @@ fn part_of(chip: Chip) -> Part
     }
 }
 
-// A predivider less one.
-fn less_of(prediv: PllPreDiv) -> u8
-    ensures { λ r. ⌜ r ≡ lessOf prediv ⌝ }
+// The code of a predivider: the divisor less one.
+fn prediv_code(prediv: PllPreDiv) -> u8
+    ensures { λ r. ⌜ r ≡ predivCode prediv ⌝ }
 {
     match prediv {
         PllPreDiv::Div1 => 0,
@@ -96,17 +97,20 @@ fn wide_config(c: Config) -> bool
 }
 
 // The PLL's output, of a configured PLL.
-fn pll_of(part: Part, hse: Hse, source: Source, pll: Pll) -> Made
-    ensures { λ r. ⌜ outputs r ≡ pllOf part hse source pll ⌝ }
+fn configured_pll(part: Part, hse: HseFrequency, source: Source, pll: Pll) -> Made
+    ensures { λ r. ⌜ madeSays r ≡ configuredPllOf part hse source pll ⌝ }
 {
     match pll {
         Pll::Absent => Made::Is(Output::Absent),
         Pll::Present { prediv, mul } => {
-            let less = less_of(prediv);
-            let setting = Setting { source, less, mul };
+            let setting = Setting {
+                source,
+                prediv: prediv_code(prediv),
+                mul,
+            };
             match pll32::pll_output(part, hse, setting) {
-                Reply::Refused(n) => Made::Refused(n),
-                Reply::Is(hz) => Made::Is(Output::Hz(hz)),
+                Rate::Refused(n) => Made::Refused(n),
+                Rate::At(x) => Made::Is(Output::At(x)),
             }
         }
     }
@@ -114,18 +118,19 @@ fn pll_of(part: Part, hse: Hse, source: Source, pll: Pll) -> Made
 
 // The check of a configuration: its clocks and the USB divisor, or the first refusal in document 01's order.
 pub fn check(chip: Chip, config: Config) -> Checked
-    ensures { λ r. ⌜ accepted r ≡ checkOf chip config ⌝ }
+    ensures { λ r. ⌜ checkedSays r ≡ checkOf chip config ⌝ }
 {
     if wide_config(config) {
         return Checked::Refused(answer::CODE_NOT_ALLOWED);
     }
     let part = part_of(chip);
-    let hse = config.hse;
+    let oscillator = config.hse;
+    let hse = pll32::hse_frequency(oscillator);
     let source = config.pll_src;
     let pll = config.pll;
-    match pll_of(part, hse, source, pll) {
+    match configured_pll(part, hse, source, pll) {
         Made::Refused(n) => Checked::Refused(n),
-        Made::Is(output) => pll32::finished(
+        Made::Is(output) => pll32::configured_clocks(
             part,
             hse,
             output,
@@ -137,9 +142,9 @@ pub fn check(chip: Chip, config: Config) -> Checked
     }
 }
 
-// The predivider that the bits name, less one.
-fn less_in(pllsrc: bool, pllxtpre: bool, hsipre: bool) -> u8
-    ensures { λ r. ⌜ r ≡ lessIn pllsrc pllxtpre hsipre ⌝ }
+// The code of the predivider that the bits name.
+fn prediv_code_in(pllsrc: bool, pllxtpre: bool, hsipre: bool) -> u8
+    ensures { λ r. ⌜ r ≡ predivCodeIn pllsrc pllxtpre hsipre ⌝ }
 {
     if pllsrc {
         if pllxtpre { 1 } else { 0 }
@@ -152,21 +157,21 @@ fn setting_in(f: Fields) -> Setting
     ensures { λ r. ⌜ r ≡ settingIn f ⌝ }
 {
     let source = pll32::source_of(f.pllsrc);
-    let less = less_in(f.pllsrc, f.pllxtpre, f.hsipre);
+    let prediv = prediv_code_in(f.pllsrc, f.pllxtpre, f.hsipre);
     Setting {
         source,
-        less,
+        prediv,
         mul: f.pllmul,
     }
 }
 
 // The decoder: the clocks that the fields make, with the frequency of HSE.
-pub fn decode(chip: Chip, fields: Fields, hse: Hse) -> Buses
-    ensures { λ r. ⌜ running r ≡ decodeOf chip fields hse ⌝ }
+pub fn decode(chip: Chip, fields: Fields, hse: HseFrequency) -> Buses
+    ensures { λ r. ⌜ busesSays r ≡ decodeOf chip fields hse ⌝ }
 {
     let part = part_of(chip);
     let setting = setting_in(fields);
-    pll32::decoded(
+    pll32::decoded_clocks(
         part,
         hse,
         setting,
@@ -185,17 +190,17 @@ fn pll_fields(source: Source, pll: Pll, earlier: Fields) -> Fields
     match pll {
         Pll::Absent => f,
         Pll::Present { prediv, mul } => {
-            let less = less_of(prediv);
+            let code = prediv_code(prediv);
             f.pllmul = mul;
             match source {
                 Source::Hsi => {
-                    let whole = less == 0;
+                    let whole = code == 0;
                     f.pllsrc = false;
                     f.hsipre = whole;
                     f
                 }
                 Source::Hse => {
-                    let halved = less == 1;
+                    let halved = code == 1;
                     f.pllsrc = true;
                     f.pllxtpre = halved;
                     f
@@ -226,7 +231,7 @@ fn wide_fields(f: Fields) -> bool
 
 // The fields that the Rust's `init` leaves for an accepted configuration, over earlier fields.
 pub fn init_fields(chip: Chip, config: Config, earlier: Fields) -> Written
-    ensures { λ r. ⌜ written r ≡ fieldsOf chip config earlier ⌝ }
+    ensures { λ r. ⌜ writtenSays r ≡ fieldsOf chip config earlier ⌝ }
 {
     if wide_fields(earlier) {
         return Written::Refused(answer::CODE_NOT_ALLOWED);

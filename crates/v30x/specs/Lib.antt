@@ -1,3 +1,4 @@
 pub mod V30x
 pub mod Laws
 pub mod Rows
+pub mod Order

@@ -1,38 +1,41 @@
 -- CH32V30x, document 01, "V1 and V30x": the check in its order, the fields, and the decoder.
 -- Assumes nothing.
 use mathlib.Core.Bool.{Bool, true, false, cond, not, _&&_, _||_}
-use Prim.Native.Nat.{ℕ, _+_, _/_}
+use Prim.Native.Nat.{ℕ, _+_}
 use lib.Dec.{eqb, leb}
 use Rattle.answer.specs.Answer.{Answer, gives, refuses, refuse, _>>=_, _>>_}
+use Rattle.divider.specs.Frequency.{over}
 use Rattle.tree.specs.declared.Clocks.{Clocks}
 use Rattle.pll32.specs.declared.Part.the-variants as part
-use Rattle.pll32.specs.declared.Hse.{Hse}
+use Rattle.tree.specs.declared.HseFrequency.{HseFrequency}
 use Rattle.pll32.specs.declared.Source.{Source}
 use Rattle.pll32.specs.declared.Source.the-variants as from
 use Rattle.pll32.specs.declared.Setting.{Setting}
-use Rattle.pll32.specs.declared.Output.{Output}
-use Rattle.pll32.specs.declared.Output.the-variants as output
-use Rattle.pll32.specs.Pll.{tooWide, fromOf, outputOf, finishedOf, sourceOf, decodedOf}
+use Rattle.tree.specs.declared.Output.{Output}
+use Rattle.tree.specs.declared.Output.the-variants as output
+use Rattle.pll32.specs.Pll.{hseFrequencyOf, tooWide, wideSetting, sourceFrequencyOf, pllOutputOf, configuredClocksOf, sourceOf, decodedClocksOf}
 use Rattle.v30x.specs.declared.PllSource.{PllSource}
 use Rattle.v30x.specs.declared.PllSource.the-variants as source
 use Rattle.v30x.specs.declared.Pll.{Pll}
 use Rattle.v30x.specs.declared.Pll.the-variants as pll
 use Rattle.v30x.specs.declared.HsPll.{HsPll}
 use Rattle.v30x.specs.declared.HsPll.the-variants as hspll
+use Rattle.v30x.specs.declared.Pllx.{Pllx}
+use Rattle.v30x.specs.declared.Pllx.the-variants as pllx
 use Rattle.v30x.specs.declared.Config.{Config}
 use Rattle.v30x.specs.declared.Fields.{Fields}
 use Rattle.v30x.specs.declared.Written.{Written}
 use Rattle.v30x.specs.declared.Written.the-variants as answer
 
 -- What the answer says.
-abbrev pub written : Written → Answer Fields
-written (answer.Is f) = gives f
-written (answer.Refused n) = refuses n
+abbrev pub writtenSays : Written → Answer Fields
+writtenSays (answer.Is f) = gives f
+writtenSays (answer.Refused n) = refuses n
 
 -- 28: a code of a configuration too wide for its field, used or not
 abbrev pub widePll : Pll → Bool
 widePll pll.Absent = false
-widePll (pll.Present prediv mul) = leb 16 prediv || leb 16 mul
+widePll (pll.Present prediv mul) = wideSetting prediv mul
 
 abbrev pub wideHsPll : HsPll → Bool
 wideHsPll hspll.Absent = false
@@ -48,62 +51,66 @@ fromHsi from.Hsi = true
 fromHsi from.Hse = false
 
 abbrev pub settingOf : Source → ℕ → ℕ → Setting
-settingOf source prediv mul = record { source = source; less = prediv; mul = mul }
+settingOf source prediv mul = record { source = source; prediv = prediv; mul = mul }
 
-unfoldable pub fedOf : Hse → Source → ℕ → ℕ → Answer Output
-fedOf hse source prediv mul = do
-  hz ← outputOf part.V30x hse (settingOf source prediv mul)
+unfoldable pub pllFromOscillatorOf : HseFrequency → Source → ℕ → ℕ → Answer Output
+pllFromOscillatorOf hse source prediv mul = do
+  x ← pllOutputOf part.V30x hse (settingOf source prediv mul)
   refuse 25 (fromHsi source && leb 2 prediv)
-  gives (output.Hz hz)
+  gives (output.At x)
 
 -- a configured PLL from PLL2: 27
-unfoldable pub pllOf : Hse → PllSource → Pll → Answer Output
-pllOf hse source pll.Absent = gives output.Absent
-pllOf hse source.Hsi (pll.Present prediv mul) = fedOf hse from.Hsi prediv mul
-pllOf hse source.Hse (pll.Present prediv mul) = fedOf hse from.Hse prediv mul
-pllOf hse source.Pll2 (pll.Present prediv mul) = refuses 27
+unfoldable pub configuredPllOf : HseFrequency → PllSource → Pll → Answer Output
+configuredPllOf hse source pll.Absent = gives output.Absent
+configuredPllOf hse source.Hsi (pll.Present prediv mul) = pllFromOscillatorOf hse from.Hsi prediv mul
+configuredPllOf hse source.Hse (pll.Present prediv mul) = pllFromOscillatorOf hse from.Hse prediv mul
+configuredPllOf hse source.Pll2 (pll.Present prediv mul) = refuses 27
 
 -- USBHS: 3, then 8 unless HSI or HSE, divided by its 1..8, is 3, 4, 5 or 8 MHz
 abbrev pub referenceAllowed : ℕ → Bool
 referenceAllowed hz = eqb hz 3000000 || eqb hz 4000000 || eqb hz 5000000 || eqb hz 8000000
 
-unfoldable pub usbhsOf : Hse → Source → HsPll → Answer (Unit {0})
+unfoldable pub usbhsOf : HseFrequency → Source → HsPll → Answer (Unit {0})
 usbhsOf hse source hspll.Absent = gives tt
 usbhsOf hse source (hspll.Present pre) = do
-  hz ← fromOf source hse
-  refuse 8 (not (referenceAllowed (hz / (pre + 1))))
+  x ← sourceFrequencyOf source hse
+  refuse 8 (not (referenceAllowed (over x (pre + 1) .hz)))
+
+abbrev pub pllxPresent : Pllx → Bool
+pllxPresent pllx.Absent = false
+pllxPresent pllx.Present = true
 
 -- 27 where `pllx` is present or PLL2 feeds a configured PLL, 3, 24, 25, then USBHS
-unfoldable pub sourcesOf : Config → Answer Output
-sourcesOf c = do
-  refuse 27 (c .pllx)
-  out ← pllOf (c .hse) (c .«pll_src») (c .pll)
-  usbhsOf (c .hse) (c .«hspll_src») (c .hspll)
+unfoldable pub sourcesOf : HseFrequency → Config → Answer Output
+sourcesOf hse c = do
+  refuse 27 (pllxPresent (c .pllx))
+  out ← configuredPllOf hse (c .«pll_src») (c .pll)
+  usbhsOf hse (c .«hspll_src») (c .hspll)
   gives out
 
 -- The check: 28, then the sources, then SYSCLK: 20, 3, 26. The six clocks and the USB divisor
 unfoldable pub checkOf : Config → Answer (Clocks × ℕ)
 checkOf c = do
   refuse 28 (wideConfig c)
-  out ← sourcesOf c
-  finishedOf part.V30x (c .hse) out (c .sys) (c .«ahb_pre») (c .«apb1_pre») (c .«apb2_pre»)
+  out ← sourcesOf (hseFrequencyOf (c .hse)) c
+  configuredClocksOf part.V30x (hseFrequencyOf (c .hse)) out (c .sys) (c .«ahb_pre») (c .«apb1_pre») (c .«apb2_pre»)
 
 -- The fields. HSE is divided by PREDIV1 + 1; HSI by 1 where its bit is set, by 2 where it is clear
-abbrev pub lessIn : Bool → ℕ → Bool → ℕ
-lessIn pllsrc prediv1 hsipre = cond pllsrc prediv1 (cond hsipre 0 1)
+abbrev pub predivCodeIn : Bool → ℕ → Bool → ℕ
+predivCodeIn pllsrc prediv1 hsipre = cond pllsrc prediv1 (cond hsipre 0 1)
 
 unfoldable pub settingIn : Fields → Setting
-settingIn f = record { source = sourceOf (f .pllsrc); less = lessIn (f .pllsrc) (f .prediv1) (f .hsipre); mul = f .pllmul }
+settingIn f = record { source = sourceOf (f .pllsrc); prediv = predivCodeIn (f .pllsrc) (f .prediv1) (f .hsipre); mul = f .pllmul }
 
 unfoldable pub wideFields : Fields → Bool
-wideFields f = leb 16 (f .prediv1) || leb 16 (f .pllmul) || tooWide (f .sws) (f .hpre) (f .ppre1) (f .ppre2)
+wideFields f = wideSetting (f .prediv1) (f .pllmul) || tooWide (f .sws) (f .hpre) (f .ppre1) (f .ppre2)
 
 -- The decoder: 28; then, only where the clock in use needs it, 27 where the PLL runs from HSE with PREDIV1SRC set, 3, 24
-unfoldable pub decodeOf : Fields → Hse → Answer Clocks
+unfoldable pub decodeOf : Fields → HseFrequency → Answer Clocks
 decodeOf f hse = do
   refuse 28 (wideFields f)
   refuse 27 (eqb (f .sws) 2 && f .pllsrc && f .prediv1src)
-  decodedOf part.V30x hse (settingIn f) (f .sws) (f .hpre) (f .ppre1) (f .ppre2)
+  decodedClocksOf part.V30x hse (settingIn f) (f .sws) (f .hpre) (f .ppre1) (f .ppre2)
 
 -- What starting the PLL leaves in the fields: as they were where none is configured. The check refuses PLL2
 unfoldable pub pllFields : PllSource → Pll → Fields → Fields
@@ -151,7 +158,7 @@ writtenOf c f =
 
 -- The fields call: 28 for the earlier fields, then as the check refuses
 unfoldable pub fieldsOf : Config → Fields → Answer Fields
-fieldsOf c f = do
-  refuse 28 (wideFields f)
+fieldsOf c earlier = do
+  refuse 28 (wideFields earlier)
   checked ← checkOf c
-  gives (writtenOf c f)
+  gives (writtenOf c earlier)

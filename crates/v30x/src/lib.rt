@@ -1,19 +1,20 @@
 // CH32V30x: the clock configuration and its check, the fields that starting it leaves, and their decoder.
 ghost use mathlib.Core.Path.{_≡_};
-ghost use Rattle.answer.specs.Said.{done};
-ghost use Rattle.tree.specs.Tree.{running};
-ghost use Rattle.pll32.specs.Pll.{outputs, accepted};
-ghost use Rattle.v30x.specs.V30x.{widePll, wideHsPll, wideConfig, fromHsi, fedOf, pllOf, referenceAllowed, usbhsOf, sourcesOf, checkOf, wideFields, lessIn, settingIn, decodeOf, pllFields, writtenOf, fieldsOf, written};
+ghost use Rattle.answer.specs.Said.{outcomeSays};
+ghost use Rattle.tree.specs.Tree.{busesSays, madeSays};
+ghost use Rattle.pll32.specs.Pll.{checkedSays};
+ghost use Rattle.v30x.specs.V30x.{widePll, wideHsPll, wideConfig, fromHsi, pllxPresent, pllFromOscillatorOf, configuredPllOf, referenceAllowed, usbhsOf, sourcesOf, checkOf, wideFields, predivCodeIn, settingIn, decodeOf, pllFields, writtenOf, fieldsOf, writtenSays};
 use answer::Outcome;
-use answer::Reply;
+use divider::Rate;
 use pll32::Checked;
 use pll32::Hse;
-use pll32::Made;
-use pll32::Output;
 use pll32::Part;
 use pll32::Setting;
 use pll32::Source;
 use tree::Buses;
+use tree::HseFrequency;
+use tree::Made;
+use tree::Output;
 
 // What feeds the PLL. PLL2 is not taken: asked for, it is refused.
 pub enum PllSource {
@@ -34,13 +35,19 @@ pub enum HsPll {
     Present { pre: u8 },
 }
 
-// A configuration. `sys` and the prescalers are the codes of their fields; `pllx`, whether PLL2 or PLL3 is asked for.
+// PLL2 and PLL3. They are not taken, so nothing of them is kept but that they are asked for, which is refused.
+pub enum Pllx {
+    Absent,
+    Present,
+}
+
+// A configuration. `sys` and the prescalers are the codes of their fields.
 pub struct Config {
     pub hse: Hse,
     pub sys: u8,
     pub pll_src: PllSource,
     pub pll: Pll,
-    pub pllx: bool,
+    pub pllx: Pllx,
     pub ahb_pre: u8,
     pub apb1_pre: u8,
     pub apb2_pre: u8,
@@ -72,7 +79,7 @@ fn wide_pll(pll: Pll) -> bool
 {
     match pll {
         Pll::Absent => false,
-        Pll::Present { prediv, mul } => (16 <= prediv) | (16 <= mul),
+        Pll::Present { prediv, mul } => pll32::wide_setting(prediv, mul),
     }
 }
 
@@ -103,36 +110,45 @@ fn from_hsi(source: Source) -> bool
     }
 }
 
+fn pllx_present(pllx: Pllx) -> bool
+    ensures { λ r. ⌜ r ≡ pllxPresent pllx ⌝ }
+{
+    match pllx {
+        Pllx::Absent => false,
+        Pllx::Present => true,
+    }
+}
+
 // The PLL's output, fed by HSI or HSE.
-fn fed(hse: Hse, source: Source, prediv: u8, mul: u8) -> Made
-    ensures { λ r. ⌜ outputs r ≡ fedOf hse source prediv mul ⌝ }
+fn pll_from_oscillator(hse: HseFrequency, source: Source, prediv: u8, mul: u8) -> Made
+    ensures { λ r. ⌜ madeSays r ≡ pllFromOscillatorOf hse source prediv mul ⌝ }
 {
     let setting = Setting {
         source,
-        less: prediv,
+        prediv,
         mul,
     };
     match pll32::pll_output(Part::V30x, hse, setting) {
-        Reply::Refused(n) => Made::Refused(n),
-        Reply::Is(hz) => {
+        Rate::Refused(n) => Made::Refused(n),
+        Rate::At(x) => {
             if from_hsi(source) & (2 <= prediv) {
                 Made::Refused(answer::HSI_PREDIVIDER)
             } else {
-                Made::Is(Output::Hz(hz))
+                Made::Is(Output::At(x))
             }
         }
     }
 }
 
 // The PLL's output, of a configured PLL.
-fn pll_of(hse: Hse, source: PllSource, pll: Pll) -> Made
-    ensures { λ r. ⌜ outputs r ≡ pllOf hse source pll ⌝ }
+fn configured_pll(hse: HseFrequency, source: PllSource, pll: Pll) -> Made
+    ensures { λ r. ⌜ madeSays r ≡ configuredPllOf hse source pll ⌝ }
 {
     match pll {
         Pll::Absent => Made::Is(Output::Absent),
         Pll::Present { prediv, mul } => match source {
-            PllSource::Hsi => fed(hse, Source::Hsi, prediv, mul),
-            PllSource::Hse => fed(hse, Source::Hse, prediv, mul),
+            PllSource::Hsi => pll_from_oscillator(hse, Source::Hsi, prediv, mul),
+            PllSource::Hse => pll_from_oscillator(hse, Source::Hse, prediv, mul),
             PllSource::Pll2 => Made::Refused(answer::PLL2_OR_PLL3),
         },
     }
@@ -146,16 +162,16 @@ fn reference_allowed(hz: u32) -> bool
 }
 
 // The USBHS PLL's reference, if one is configured.
-fn usbhs(hse: Hse, source: Source, hspll: HsPll) -> Outcome
-    ensures { λ r. ⌜ done r ≡ usbhsOf hse source hspll ⌝ }
+fn usbhs(hse: HseFrequency, source: Source, hspll: HsPll) -> Outcome
+    ensures { λ r. ⌜ outcomeSays r ≡ usbhsOf hse source hspll ⌝ }
 {
     match hspll {
         HsPll::Absent => Outcome::Done,
-        HsPll::Present { pre } => match pll32::from(source, hse) {
-            Reply::Refused(n) => Outcome::Refused(n),
-            Reply::Is(hz) => {
-                let reference = divider::by_one_more(hz, pre);
-                if reference_allowed(reference) {
+        HsPll::Present { pre } => match pll32::source_frequency(source, hse) {
+            Rate::Refused(n) => Outcome::Refused(n),
+            Rate::At(x) => {
+                let reference = divider::by_one_more(x, pre);
+                if reference_allowed(reference.hz) {
                     Outcome::Done
                 } else {
                     Outcome::Refused(answer::USBHS_REFERENCE)
@@ -166,18 +182,18 @@ fn usbhs(hse: Hse, source: Source, hspll: HsPll) -> Outcome
 }
 
 // The PLLs, in order; the main PLL's output.
-fn sources(c: Config) -> Made
-    ensures { λ r. ⌜ outputs r ≡ sourcesOf c ⌝ }
+fn sources(hse: HseFrequency, c: Config) -> Made
+    ensures { λ r. ⌜ madeSays r ≡ sourcesOf hse c ⌝ }
 {
-    if c.pllx {
+    let pllx = c.pllx;
+    if pllx_present(pllx) {
         return Made::Refused(answer::PLL2_OR_PLL3);
     }
-    let hse = c.hse;
     let source = c.pll_src;
     let pll = c.pll;
     let hspll_src = c.hspll_src;
     let hspll = c.hspll;
-    match pll_of(hse, source, pll) {
+    match configured_pll(hse, source, pll) {
         Made::Refused(n) => Made::Refused(n),
         Made::Is(output) => match usbhs(hse, hspll_src, hspll) {
             Outcome::Refused(n) => Made::Refused(n),
@@ -188,15 +204,16 @@ fn sources(c: Config) -> Made
 
 // The check of a configuration: its clocks and the USB divisor, or the first refusal in document 01's order.
 pub fn check(config: Config) -> Checked
-    ensures { λ r. ⌜ accepted r ≡ checkOf config ⌝ }
+    ensures { λ r. ⌜ checkedSays r ≡ checkOf config ⌝ }
 {
     if wide_config(config) {
         return Checked::Refused(answer::CODE_NOT_ALLOWED);
     }
-    let hse = config.hse;
-    match sources(config) {
+    let oscillator = config.hse;
+    let hse = pll32::hse_frequency(oscillator);
+    match sources(hse, config) {
         Made::Refused(n) => Checked::Refused(n),
-        Made::Is(output) => pll32::finished(
+        Made::Is(output) => pll32::configured_clocks(
             Part::V30x,
             hse,
             output,
@@ -208,9 +225,9 @@ pub fn check(config: Config) -> Checked
     }
 }
 
-// The predivider that the fields name, less one.
-fn less_in(pllsrc: bool, prediv1: u8, hsipre: bool) -> u8
-    ensures { λ r. ⌜ r ≡ lessIn pllsrc prediv1 hsipre ⌝ }
+// The code of the predivider that the fields name: the divisor less one.
+fn prediv_code_in(pllsrc: bool, prediv1: u8, hsipre: bool) -> u8
+    ensures { λ r. ⌜ r ≡ predivCodeIn pllsrc prediv1 hsipre ⌝ }
 {
     if pllsrc {
         return prediv1;
@@ -222,10 +239,10 @@ fn setting_in(f: Fields) -> Setting
     ensures { λ r. ⌜ r ≡ settingIn f ⌝ }
 {
     let source = pll32::source_of(f.pllsrc);
-    let less = less_in(f.pllsrc, f.prediv1, f.hsipre);
+    let prediv = prediv_code_in(f.pllsrc, f.prediv1, f.hsipre);
     Setting {
         source,
-        less,
+        prediv,
         mul: f.pllmul,
     }
 }
@@ -233,12 +250,12 @@ fn setting_in(f: Fields) -> Setting
 fn wide_fields(f: Fields) -> bool
     ensures { λ r. ⌜ r ≡ wideFields f ⌝ }
 {
-    (16 <= f.prediv1) | (16 <= f.pllmul) | pll32::too_wide(f.sws, f.hpre, f.ppre1, f.ppre2)
+    pll32::wide_setting(f.prediv1, f.pllmul) | pll32::too_wide(f.sws, f.hpre, f.ppre1, f.ppre2)
 }
 
 // The decoder: the clocks that the fields make, with the frequency of HSE.
-pub fn decode(fields: Fields, hse: Hse) -> Buses
-    ensures { λ r. ⌜ running r ≡ decodeOf fields hse ⌝ }
+pub fn decode(fields: Fields, hse: HseFrequency) -> Buses
+    ensures { λ r. ⌜ busesSays r ≡ decodeOf fields hse ⌝ }
 {
     if wide_fields(fields) {
         return Buses::Refused(answer::CODE_NOT_ALLOWED);
@@ -247,7 +264,7 @@ pub fn decode(fields: Fields, hse: Hse) -> Buses
         return Buses::Refused(answer::PLL2_OR_PLL3);
     }
     let setting = setting_in(fields);
-    pll32::decoded(
+    pll32::decoded_clocks(
         Part::V30x,
         hse,
         setting,
@@ -300,7 +317,7 @@ fn written_of(c: Config, earlier: Fields) -> Fields
 
 // The fields that the Rust's `init` leaves for an accepted configuration, over earlier fields.
 pub fn init_fields(config: Config, earlier: Fields) -> Written
-    ensures { λ r. ⌜ written r ≡ fieldsOf config earlier ⌝ }
+    ensures { λ r. ⌜ writtenSays r ≡ fieldsOf config earlier ⌝ }
 {
     if wide_fields(earlier) {
         return Written::Refused(answer::CODE_NOT_ALLOWED);

@@ -7,8 +7,14 @@ use Prim.Native.Nat.{ℕ, _+_, _*_, _/_}
 use lib.Dec.{ltb, leb, eqb}
 use Rattle.answer.specs.Answer.{Answer, gives, refuses, refuse, _>>=_, _>>_, settled-by}
 use Rattle.answer.specs.Tests.{every}
+use Rattle.divider.specs.declared.Frequency.{Frequency}
+use Rattle.divider.specs.Frequency.{whole, over}
 use Rattle.tree.specs.declared.Clocks.{Clocks}
-use Rattle.v4x7_rules.specs.Rules.{hseOf, mainPllOf, ethPllOf, referenceCodeOf, sysPllOf, busesOf, adcFromHclkOf, adcFromUsbHsOf}
+use Rattle.tree.specs.declared.HseFrequency.{HseFrequency}
+use Rattle.tree.specs.declared.HseFrequency.the-variants as frequency
+use Rattle.tree.specs.declared.Output.{Output}
+use Rattle.tree.specs.declared.Output.the-variants as output
+use Rattle.v4x7_rules.specs.Rules.{hseInRange, usedHseOf, mainPllOf, ethPllOf, referenceCodeOf, sysPllOf, busesOf, adcFromHclkOf, adcFromUsbHsOf}
 use Rattle.v4x7.specs.declared.Hse.{Hse}
 use Rattle.v4x7.specs.declared.Hse.the-variants as hse
 use Rattle.v4x7.specs.declared.Pll.{Pll}
@@ -37,98 +43,109 @@ namedAhb a = eqb a 0 || leb 8 a && leb a 15
 abbrev pub namedApb : ℕ → Bool
 namedApb a = eqb a 0 || leb 4 a && leb a 7
 
+abbrev pub namedSource : ℕ → Bool
+namedSource s = leb s 3 || eqb s 6
+
 unfoldable pub named : Config → List Bool
 named c =
     namedPll (c .pll) ∷ namedHsPll (c .hspll) ∷ leb (c .sys) 2 ∷ leb (c .«pll_src») 1
-    ∷ (leb (c .«syspll_src») 3 || eqb (c .«syspll_src») 6) ∷ leb (c .«syspll_pre») 7
+    ∷ namedSource (c .«syspll_src») ∷ leb (c .«syspll_pre») 7
     ∷ namedAhb (c .«ahb_pre») ∷ namedApb (c .«apb1_pre») ∷ namedApb (c .«apb2_pre»)
     ∷ leb (c .«rng_src») 2 ∷ leb (c .«adc_pre») 3 ∷ leb (c .«adc_duty») 2 ∷ []
 
 abbrev pub namedOf : Config → Bool
 namedOf c = every (named c)
 
--- Parts that are not configured.
+-- Parts that are configured.
 
-abbrev pub noPll : Pll → Bool
-noPll pll.Absent = true
-noPll (pll.Mul m) = false
+abbrev pub hasHse : Hse → Bool
+hasHse hse.Absent = false
+hasHse (hse.Present bypass hz) = true
 
-abbrev pub noHsPll : HsPll → Bool
-noHsPll hspll.Absent = true
-noHsPll (hspll.From s) = false
+abbrev pub hasMain : Pll → Bool
+hasMain pll.Absent = false
+hasMain (pll.Mul m) = true
+
+abbrev pub hasUsbHs : HsPll → Bool
+hasUsbHs hspll.Absent = false
+hasUsbHs (hspll.From s) = true
+
+-- HSE's frequency or none, which is all that the rules and the decoder take
+abbrev pub hseFrequencyOf : Hse → HseFrequency
+hseFrequencyOf hse.Absent = frequency.Absent
+hseFrequencyOf (hse.Present bypass hz) = frequency.Hz hz
 
 -- RNG (1, 2)
 unfoldable pub rngOf : ℕ → HsPll → Bool → Answer (Unit {0})
 rngOf source hspll eth = do
-  refuse 1 (eqb source 1 && noHsPll hspll)
+  refuse 1 (eqb source 1 && not (hasUsbHs hspll))
   refuse 2 (eqb source 2 && not eth)
 
 -- HSE if present (4)
-unfoldable pub hsePresentOf : Hse → Answer (Unit {0})
-hsePresentOf hse.Absent = gives tt
-hsePresentOf (hse.Present bypass hz) = do
-  hseOf hz
-  gives tt
+unfoldable pub hsePresentOf : HseFrequency → Answer (Unit {0})
+hsePresentOf frequency.Absent = gives tt
+hsePresentOf (frequency.Hz hz) = hseInRange hz
 
--- HSE needed, no frequency (3)
-abbrev pub neededOf : Hse → Answer ℕ
-neededOf hse.Absent = refuses 3
-neededOf (hse.Present bypass hz) = gives hz
-
--- main PLL if present, used or not: 3 where its source is HSE and absent, then 5. Absent: 0
-unfoldable pub mainOf : Hse → ℕ → Pll → Answer ℕ
-mainOf hse source pll.Absent = gives 0
-mainOf hse source (pll.Mul m) = mainPllOf (neededOf hse) (eqb source 1) m
+-- main PLL if present, used or not: 3 where its source is HSE and absent, then 5
+unfoldable pub mainOf : HseFrequency → ℕ → Pll → Answer Output
+mainOf hse source pll.Absent = gives output.Absent
+mainOf hse source (pll.Mul m) = do
+  main ← mainPllOf hse (eqb source 1) m
+  gives (output.At main)
 
 -- ETH PLL: 3, 6
-unfoldable pub ethOf : Hse → Bool → Answer (Unit {0})
+unfoldable pub ethOf : HseFrequency → Bool → Answer (Unit {0})
 ethOf hse false = gives tt
-ethOf hse true = ethPllOf (neededOf hse)
+ethOf hse true = ethPllOf hse
 
 -- USBHS PLL: HSE source 3; ETH source 7, else 20 MHz
-unfoldable pub referenceOf : Hse → Bool → ℕ → Answer ℕ
-referenceOf hse eth source = cond (eqb source 0) (neededOf hse) (do
+unfoldable pub referenceOf : HseFrequency → Bool → ℕ → Answer Frequency
+referenceOf hse eth source = cond (eqb source 0) (usedHseOf hse) (do
   refuse 7 (eqb source 2 && not eth)
-  gives 20000000)
+  gives (whole 20000000))
 
 -- then 8
-unfoldable pub usbHsOf : Hse → Bool → HsPll → Answer (Unit {0})
+unfoldable pub usbHsOf : HseFrequency → Bool → HsPll → Answer (Unit {0})
 usbHsOf hse eth hspll.Absent = gives tt
 usbHsOf hse eth (hspll.From source) = do
-  hz ← referenceOf hse eth source
-  referenceCodeOf hz
+  x ← referenceOf hse eth source
+  referenceCodeOf (x .hz)
   gives tt
 
 -- RNG, HSE, main PLL, ETH PLL, USBHS PLL; the main PLL's output
-unfoldable pub sourcesOf : Config → Answer ℕ
+unfoldable pub sourcesOf : Config → Answer Output
 sourcesOf c = do
   rngOf (c .«rng_src») (c .hspll) (c .ethpll)
-  hsePresentOf (c .hse)
-  main ← mainOf (c .hse) (c .«pll_src») (c .pll)
-  ethOf (c .hse) (c .ethpll)
-  usbHsOf (c .hse) (c .ethpll) (c .hspll)
+  hsePresentOf (hseFrequencyOf (c .hse))
+  main ← mainOf (hseFrequencyOf (c .hse)) (c .«pll_src») (c .pll)
+  ethOf (hseFrequencyOf (c .hse)) (c .ethpll)
+  usbHsOf (hseFrequencyOf (c .hse)) (c .ethpll) (c .hspll)
   gives main
 
 -- PLL by source (9, 10, 11)
-unfoldable pub inputOf : ℕ → Pll → HsPll → Bool → ℕ → Answer ℕ
-inputOf main pll hspll eth source = do
-  refuse 9 (eqb source 6 && noPll pll)
-  refuse 10 ((eqb source 0 || eqb source 2) && noHsPll hspll)
+unfoldable pub sysPllInputOf : Output → HsPll → Bool → ℕ → Answer Frequency
+sysPllInputOf main hspll eth source = do
+  refuse 10 ((eqb source 0 || eqb source 2) && not (hasUsbHs hspll))
   refuse 11 ((eqb source 1 || eqb source 3) && not eth)
   sysPllOf source main
 
 -- SYSCLK: HSI; HSE (3); PLL by source, then divided by 1..8
-unfoldable pub sysclkOf : ℕ → Config → Answer ℕ
-sysclkOf main c = cond (eqb (c .sys) 0) (gives 20000000) (cond (eqb (c .sys) 1) (neededOf (c .hse)) (do
-  hz ← inputOf main (c .pll) (c .hspll) (c .ethpll) (c .«syspll_src»)
-  gives (hz / (c .«syspll_pre» + 1))))
+unfoldable pub sysclkOf : Output → Config → Answer Frequency
+sysclkOf main c = cond (eqb (c .sys) 0) (gives (whole 20000000)) (cond (eqb (c .sys) 1) (usedHseOf (hseFrequencyOf (c .hse))) (do
+  input ← sysPllInputOf main (c .hspll) (c .ethpll) (c .«syspll_src»)
+  gives (over input (c .«syspll_pre» + 1))))
+
+-- SYSCLK, after all sources
+unfoldable pub systemOf : Config → Answer Frequency
+systemOf c = do
+  main ← sourcesOf c
+  sysclkOf main c
 
 -- ADC 13, 14: source SYSCLK or 480 MHz, and the total divisor
 unfoldable pub adcRatioOf : ℕ → ℕ → ℕ → ℕ → HsPll → AdcClockSource → Answer (ℕ × ℕ)
 adcRatioOf sys ahb apb2 pre hspll adc.Hclk = adcFromHclkOf sys ahb apb2 pre
 adcRatioOf sys ahb apb2 pre hspll (adc.UsbHsPll d) = do
-  refuse 13 (noHsPll hspll)
-  refuse 14 (ltb d 1 || ltb 32 d)
+  refuse 13 (not (hasUsbHs hspll))
   adcFromUsbHsOf d apb2 pre
 
 -- 15, 16: source > 30,000,000 x total divisor; below 1 Hz
@@ -147,17 +164,16 @@ adcOf sys c = do
 unfoldable pub checkOf : Config → Answer (Clocks × ℕ)
 checkOf c = do
   refuse 28 (not (namedOf c))
-  main ← sourcesOf c
-  sys ← sysclkOf main c
+  sys ← systemOf c
   clocks ← busesOf sys (c .«ahb_pre») (c .«apb1_pre») (c .«apb2_pre»)
-  adc ← adcOf sys c
+  adc ← adcOf (sys .hz) c
   gives (clocks, adc)
 
 -- What a `Checked` says; two that say the same are equal.
 
-abbrev pub accepted : Checked → Answer (Clocks × ℕ)
-accepted (checked.Accepted clocks adc) = gives (clocks, adc)
-accepted (checked.Refused n) = refuses n
+abbrev pub checkedSays : Checked → Answer (Clocks × ℕ)
+checkedSays (checked.Accepted clocks adc) = gives (clocks, adc)
+checkedSays (checked.Refused n) = refuses n
 
 -- the number of a check that refuses, 0 of one that accepts
 abbrev pub refusedOf : Checked → ℕ
@@ -168,10 +184,10 @@ checkedOf : Answer (Clocks × ℕ) → Checked
 checkedOf (gives x) = checked.Accepted (x .0) (x .1)
 checkedOf (refuses n) = checked.Refused n
 
-checked-again : (r : Checked) → checkedOf (accepted r) ≡ r
+checked-again : (r : Checked) → checkedOf (checkedSays r) ≡ r
 unfolding checkedOf
 checked-again (checked.Accepted clocks adc) = refl
 checked-again (checked.Refused n) = refl
 
-pub checked-settled : (r s : Checked) → accepted r ≡ accepted s → r ≡ s
-checked-settled = settled-by accepted checkedOf checked-again
+pub checked-settled : (r s : Checked) → checkedSays r ≡ checkedSays s → r ≡ s
+checked-settled = settled-by checkedSays checkedOf checked-again

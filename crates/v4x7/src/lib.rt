@@ -1,14 +1,20 @@
 // CH32V407/CH32V467: the clock configuration and its check.
 ghost use mathlib.Core.Path.{_≡_};
-ghost use Rattle.answer.specs.Said.{replied, done};
+ghost use Rattle.answer.specs.Said.{replySays, outcomeSays};
 ghost use Rattle.divider.specs.Facts.{Between};
-ghost use Rattle.v4x7_rules.specs.Rules.{rated};
-ghost use Rattle.v4x7.specs.Check.{accepted, refusedOf, namedPll, namedHsPll, namedOf, noHsPll, noPll, rngOf, hsePresentOf, neededOf, mainOf, ethOf, referenceOf, usbHsOf, sourcesOf, inputOf, sysclkOf, adcRatioOf, limitsOf, adcOf, checkOf};
+ghost use Rattle.divider.specs.Frequency.{rateSays};
+ghost use Rattle.tree.specs.Tree.{madeSays};
+ghost use Rattle.v4x7_rules.specs.Rules.{ratioSays};
+ghost use Rattle.v4x7.specs.Check.{checkedSays, refusedOf, namedPll, namedHsPll, namedAhb, namedApb, namedSource, namedOf, hasUsbHs, hseFrequencyOf, rngOf, hsePresentOf, mainOf, ethOf, referenceOf, usbHsOf, sourcesOf, sysPllInputOf, sysclkOf, systemOf, adcRatioOf, limitsOf, adcOf, checkOf};
 use answer::Outcome;
 use answer::Reply;
 use answer::refusal;
+use divider::Rate;
 use tree::Buses;
 use tree::Clocks;
+use tree::HseFrequency;
+use tree::Made;
+use tree::Output;
 use v4x7_rules::HSI_FREQUENCY;
 use v4x7_rules::Ratio;
 
@@ -80,52 +86,78 @@ fn named_hspll(hspll: HsPll) -> bool
     }
 }
 
+fn named_ahb(code: u8) -> bool
+    ensures { λ r. ⌜ r ≡ namedAhb code ⌝ }
+{
+    (code == 0) | ((8 <= code) & (code <= 15))
+}
+
+fn named_apb(code: u8) -> bool
+    ensures { λ r. ⌜ r ≡ namedApb code ⌝ }
+{
+    (code == 0) | ((4 <= code) & (code <= 7))
+}
+
+fn named_source(code: u8) -> bool
+    ensures { λ r. ⌜ r ≡ namedSource code ⌝ }
+{
+    (code <= 3) | (code == 6)
+}
+
 // Whether each code of a configuration, used or not, has a name in the Rust: 28 otherwise. The startup asks this too.
-// Tests that cost less than a jump are joined by `&`.
 pub fn named_codes(c: Config) -> bool
     ensures { λ r. ⌜ r ≡ namedOf c ⌝ }
 {
     let pll = c.pll;
     let hspll = c.hspll;
-    named_pll(pll)
-        && named_hspll(hspll)
-        && (c.sys <= 2)
-            & (c.pll_src <= 1)
-            & ((c.syspll_src <= 3) | (c.syspll_src == 6))
-            & (c.syspll_pre <= 7)
-        && ((c.ahb_pre == 0) | ((8 <= c.ahb_pre) & (c.ahb_pre <= 15)))
-        && ((c.apb1_pre == 0) | ((4 <= c.apb1_pre) & (c.apb1_pre <= 7)))
-        && ((c.apb2_pre == 0) | ((4 <= c.apb2_pre) & (c.apb2_pre <= 7)))
-        && (c.rng_src <= 2) & (c.adc_pre <= 3) & (c.adc_duty <= 2)
+    let main = named_pll(pll);
+    let usbhs = named_hspll(hspll);
+    let source = named_source(c.syspll_src);
+    let ahb = named_ahb(c.ahb_pre);
+    let apb1 = named_apb(c.apb1_pre);
+    let apb2 = named_apb(c.apb2_pre);
+    main
+        & usbhs
+        & (c.sys <= 2)
+        & (c.pll_src <= 1)
+        & source
+        & (c.syspll_pre <= 7)
+        & ahb
+        & apb1
+        & apb2
+        & (c.rng_src <= 2)
+        & (c.adc_pre <= 3)
+        & (c.adc_duty <= 2)
 }
 
-fn no_hspll(hspll: HsPll) -> bool
-    ensures { λ r. ⌜ r ≡ noHsPll hspll ⌝ }
+fn has_hspll(hspll: HsPll) -> bool
+    ensures { λ r. ⌜ r ≡ hasUsbHs hspll ⌝ }
 {
     match hspll {
-        HsPll::Absent => true,
-        HsPll::From(_) => false,
+        HsPll::Absent => false,
+        HsPll::From(_) => true,
     }
 }
 
-fn no_pll(pll: Pll) -> bool
-    ensures { λ r. ⌜ r ≡ noPll pll ⌝ }
+// HSE's frequency or none, which is all that the rules and the decoder take.
+pub fn hse_frequency(hse: Hse) -> HseFrequency
+    ensures { λ r. ⌜ r ≡ hseFrequencyOf hse ⌝ }
 {
-    match pll {
-        Pll::Absent => true,
-        Pll::Mul(_) => false,
+    match hse {
+        Hse::Absent => HseFrequency::Absent,
+        Hse::Present { bypass: _, freq } => HseFrequency::Hz(freq),
     }
 }
 
 // The RNG's PLL is configured; SYSCLK needs none.
 fn rng(source: u8, hspll: HsPll, ethpll: bool) -> Outcome
-    ensures { λ r. ⌜ done r ≡ rngOf source hspll ethpll ⌝ }
+    ensures { λ r. ⌜ outcomeSays r ≡ rngOf source hspll ethpll ⌝ }
 {
     if source == 0 {
         return Outcome::Done;
     }
-    let missing = no_hspll(hspll);
-    if (source == 1) & missing {
+    let usbhs = has_hspll(hspll);
+    if (source == 1) & !usbhs {
         return Outcome::Refused(answer::RNG_WITHOUT_USBHS);
     }
     if (source == 2) & !ethpll {
@@ -135,69 +167,59 @@ fn rng(source: u8, hspll: HsPll, ethpll: bool) -> Outcome
 }
 
 // HSE, where there is one, is in range.
-fn hse_present(hse: Hse) -> Outcome
-    ensures { λ r. ⌜ done r ≡ hsePresentOf hse ⌝ }
-{
-    let Hse::Present { bypass: _, freq } = hse else {
-        return Outcome::Done;
-    };
-    match v4x7_rules::hse_frequency(freq) {
-        Reply::Refused(n) => Outcome::Refused(n),
-        Reply::Is(_) => Outcome::Done,
-    }
-}
-
-// HSE's frequency, for a part that needs it.
-fn needed_hse(hse: Hse) -> Reply
-    ensures { λ r. ⌜ replied r ≡ neededOf hse ⌝ }
+fn hse_present(hse: HseFrequency) -> Outcome
+    ensures { λ r. ⌜ outcomeSays r ≡ hsePresentOf hse ⌝ }
 {
     match hse {
-        Hse::Absent => Reply::Refused(answer::HSE_MISSING),
-        Hse::Present { bypass: _, freq } => Reply::Is(freq),
+        HseFrequency::Absent => Outcome::Done,
+        HseFrequency::Hz(hz) => v4x7_rules::hse_in_range(hz),
     }
 }
 
-// The main PLL's output, used or not; 0 where there is none.
-fn main_pll(hse: Hse, source: u8, pll: Pll) -> Reply
-    ensures { λ r. ⌜ replied r ≡ mainOf hse source pll ⌝ }
+// The main PLL's output where it is configured, used or not.
+fn main_pll(hse: HseFrequency, source: u8, pll: Pll) -> Made
+    ensures { λ r. ⌜ madeSays r ≡ mainOf hse source pll ⌝ }
 {
     let Pll::Mul(mul) = pll else {
-        return Reply::Is(0);
+        return Made::Is(Output::Absent);
     };
-    v4x7_rules::main_pll(needed_hse(hse), source == 1, mul)
+    match v4x7_rules::main_pll(hse, source == 1, mul) {
+        Rate::Refused(n) => Made::Refused(n),
+        Rate::At(output) => Made::Is(Output::At(output)),
+    }
 }
 
-fn eth(hse: Hse, ethpll: bool) -> Outcome
-    ensures { λ r. ⌜ done r ≡ ethOf hse ethpll ⌝ }
+fn eth(hse: HseFrequency, ethpll: bool) -> Outcome
+    ensures { λ r. ⌜ outcomeSays r ≡ ethOf hse ethpll ⌝ }
 {
     if !ethpll {
         return Outcome::Done;
     }
-    v4x7_rules::eth_pll(needed_hse(hse))
+    v4x7_rules::eth_pll(hse)
 }
 
 // The reference that the USBHS PLL gets.
-fn reference(hse: Hse, ethpll: bool, source: u8) -> Reply
-    ensures { λ r. ⌜ replied r ≡ referenceOf hse ethpll source ⌝ }
+fn reference(hse: HseFrequency, ethpll: bool, source: u8) -> Rate
+    ensures { λ r. ⌜ rateSays r ≡ referenceOf hse ethpll source ⌝ }
 {
     if source == 0 {
-        return needed_hse(hse);
+        return v4x7_rules::used_hse(hse);
     }
     if (source == 2) & !ethpll {
-        return Reply::Refused(answer::USBHS_WITHOUT_ETH);
+        return Rate::Refused(answer::USBHS_WITHOUT_ETH);
     }
-    Reply::Is(HSI_FREQUENCY)
+    Rate::At(divider::hertz(HSI_FREQUENCY))
 }
 
-fn usbhs(hse: Hse, ethpll: bool, hspll: HsPll) -> Outcome
-    ensures { λ r. ⌜ done r ≡ usbHsOf hse ethpll hspll ⌝ }
+fn usbhs(hse: HseFrequency, ethpll: bool, hspll: HsPll) -> Outcome
+    ensures { λ r. ⌜ outcomeSays r ≡ usbHsOf hse ethpll hspll ⌝ }
 {
     let HsPll::From(source) = hspll else {
         return Outcome::Done;
     };
     match reference(hse, ethpll, source) {
-        Reply::Refused(n) => Outcome::Refused(n),
-        Reply::Is(hz) => match v4x7_rules::reference_code(hz) {
+        Rate::Refused(n) => Outcome::Refused(n),
+        Rate::At(input) => match v4x7_rules::reference_code(input.hz) {
             Reply::Refused(n) => Outcome::Refused(n),
             Reply::Is(_) => Outcome::Done,
         },
@@ -205,82 +227,84 @@ fn usbhs(hse: Hse, ethpll: bool, hspll: HsPll) -> Outcome
 }
 
 // The sources, in order; answers the main PLL's output.
-fn sources(c: Config) -> Reply
-    ensures { λ r. ⌜ replied r ≡ sourcesOf c ⌝ }
+fn sources(c: Config) -> Made
+    ensures { λ r. ⌜ madeSays r ≡ sourcesOf c ⌝ }
 {
-    let hse = c.hse;
+    let crystal = c.hse;
     let pll = c.pll;
     let hspll = c.hspll;
+    let hse = hse_frequency(crystal);
     if let Outcome::Refused(n) = rng(c.rng_src, hspll, c.ethpll) {
-        return Reply::Refused(n);
+        return Made::Refused(n);
     }
     if let Outcome::Refused(n) = hse_present(hse) {
-        return Reply::Refused(n);
+        return Made::Refused(n);
     }
-    let main = main_pll(hse, c.pll_src, pll);
-    let Reply::Is(hz) = main else {
-        return main;
+    let made = main_pll(hse, c.pll_src, pll);
+    let Made::Is(main) = made else {
+        return made;
     };
     if let Outcome::Refused(n) = eth(hse, c.ethpll) {
-        return Reply::Refused(n);
+        return Made::Refused(n);
     }
     if let Outcome::Refused(n) = usbhs(hse, c.ethpll, hspll) {
-        return Reply::Refused(n);
+        return Made::Refused(n);
     }
-    Reply::Is(hz)
+    Made::Is(main)
 }
 
 // What SYSPLL takes in, from a PLL that is configured.
-fn syspll_input(main: u32, pll: Pll, hspll: HsPll, ethpll: bool, source: u8) -> Reply
-    ensures { λ r. ⌜ replied r ≡ inputOf main pll hspll ethpll source ⌝ }
+fn syspll_input(main: Output, hspll: HsPll, ethpll: bool, source: u8) -> Rate
+    ensures { λ r. ⌜ rateSays r ≡ sysPllInputOf main hspll ethpll source ⌝ }
 {
-    if source == 6 {
-        if no_pll(pll) {
-            return Reply::Refused(answer::SYSPLL_WITHOUT_PLL);
-        }
-        return v4x7_rules::syspll_input(source, main);
-    }
-    let no_usbhs = no_hspll(hspll);
-    if ((source == 0) | (source == 2)) & no_usbhs {
-        return Reply::Refused(answer::SYSPLL_WITHOUT_USBHS);
+    let usbhs = has_hspll(hspll);
+    if ((source == 0) | (source == 2)) & !usbhs {
+        return Rate::Refused(answer::SYSPLL_WITHOUT_USBHS);
     }
     if ((source == 1) | (source == 3)) & !ethpll {
-        return Reply::Refused(answer::SYSPLL_WITHOUT_ETH);
+        return Rate::Refused(answer::SYSPLL_WITHOUT_ETH);
     }
     v4x7_rules::syspll_input(source, main)
 }
 
-fn sysclk(main: u32, c: Config) -> Reply
-    ensures { λ r. ⌜ replied r ≡ sysclkOf main c ⌝ }
+fn sysclk(main: Output, c: Config) -> Rate
+    ensures { λ r. ⌜ rateSays r ≡ sysclkOf main c ⌝ }
 {
     let hse = c.hse;
-    let pll = c.pll;
     let hspll = c.hspll;
     if c.sys == 0 {
-        return Reply::Is(HSI_FREQUENCY);
+        return Rate::At(divider::hertz(HSI_FREQUENCY));
     }
     if c.sys == 1 {
-        return needed_hse(hse);
+        return v4x7_rules::used_hse(hse_frequency(hse));
     }
-    let input = syspll_input(main, pll, hspll, c.ethpll, c.syspll_src);
-    let Reply::Is(hz) = input else {
-        return input;
+    let rate = syspll_input(main, hspll, c.ethpll, c.syspll_src);
+    let Rate::At(input) = rate else {
+        return rate;
     };
-    Reply::Is(divider::by_one_more(hz, c.syspll_pre))
+    Rate::At(divider::by_one_more(input, c.syspll_pre))
+}
+
+// SYSCLK, once all sources are in order.
+fn system(c: Config) -> Rate
+    ensures { λ r. ⌜ rateSays r ≡ systemOf c ⌝ }
+{
+    match sources(c) {
+        Made::Refused(n) => Rate::Refused(n),
+        Made::Is(main) => sysclk(main, c),
+    }
 }
 
 // What the ADC divides, and by how much.
 fn adc_ratio(sysclk: u32, ahb: u8, apb2: u8, pre: u8, hspll: HsPll, source: AdcClockSource) -> Ratio
-    ensures { λ r. ⌜ rated r ≡ adcRatioOf sysclk ahb apb2 pre hspll source ⌝ }
+    ensures { λ r. ⌜ ratioSays r ≡ adcRatioOf sysclk ahb apb2 pre hspll source ⌝ }
 {
     match source {
         AdcClockSource::Hclk => v4x7_rules::adc_from_hclk(sysclk, ahb, apb2, pre),
         AdcClockSource::UsbHsPll { divisor } => {
-            if no_hspll(hspll) {
+            let usbhs = has_hspll(hspll);
+            if !usbhs {
                 return Ratio::Refused(answer::ADC_WITHOUT_USBHS);
-            }
-            if (divisor < 1) | (32 < divisor) {
-                return Ratio::Refused(answer::ADC_DIVISOR);
             }
             v4x7_rules::adc_from_usbhs(divisor, apb2, pre)
         }
@@ -290,7 +314,7 @@ fn adc_ratio(sysclk: u32, ahb: u8, apb2: u8, pre: u8, hspll: HsPll, source: AdcC
 // The ADC's frequency, within its limits. The upper one is tested on the product: rounding down could hide what is above it.
 fn adc_limits(source: u32, divisor: u32) -> Reply
     requires { ⌜ Between 65536 divisor ⌝ }
-    ensures { λ r. ⌜ replied r ≡ limitsOf source divisor ⌝ }
+    ensures { λ r. ⌜ replySays r ≡ limitsOf source divisor ⌝ }
 {
     if 30_000_000 * (divisor as u64) < (source as u64) {
         return Reply::Refused(answer::ADC_TOO_FAST);
@@ -303,7 +327,7 @@ fn adc_limits(source: u32, divisor: u32) -> Reply
 }
 
 fn adc(sysclk: u32, c: Config) -> Reply
-    ensures { λ r. ⌜ replied r ≡ adcOf sysclk c ⌝ }
+    ensures { λ r. ⌜ replySays r ≡ adcOf sysclk c ⌝ }
 {
     let hspll = c.hspll;
     let from = c.adc_src;
@@ -316,23 +340,19 @@ fn adc(sysclk: u32, c: Config) -> Reply
 impl Config {
     // The check: the configuration's clocks and the ADC's frequency, or the first refusal in document 01's order.
     pub fn clocks(self) -> Checked
-        ensures { λ r. ⌜ accepted r ≡ checkOf self ⌝ }
+        ensures { λ r. ⌜ checkedSays r ≡ checkOf self ⌝ }
     {
         if !named_codes(self) {
             return Checked::Refused(answer::CODE_NOT_ALLOWED);
         }
-        let sourced = sources(self);
-        let Reply::Is(main) = sourced else {
-            return Checked::Refused(refusal(sourced));
-        };
-        let system = sysclk(main, self);
-        let Reply::Is(sys) = system else {
-            return Checked::Refused(refusal(system));
+        let rate = system(self);
+        let Rate::At(sys) = rate else {
+            return Checked::Refused(divider::refusal(rate));
         };
         match v4x7_rules::bus_clocks(sys, self.ahb_pre, self.apb1_pre, self.apb2_pre) {
             Buses::Refused(n) => Checked::Refused(n),
             Buses::Run(clocks) => {
-                let sampled = adc(sys, self);
+                let sampled = adc(sys.hz, self);
                 let Reply::Is(hz) = sampled else {
                     return Checked::Refused(refusal(sampled));
                 };

@@ -1,48 +1,63 @@
 -- Laws of the rules, which callers use in place of their text.
 -- Assumes nothing.
-use mathlib.Core.Path.{_≡_, refl, subst}
+use mathlib.Core.Path.{_≡_, refl}
+use mathlib.Core.Bool.{_||_}
 use Prim.Native.Nat.{ℕ, _+_, _*_, _<_}
 use native.Mathlib.Omega.{arith}
-use borrow.Author.Tests.{leb-false}
-use lib.Dec.{leb}
-use Rattle.answer.specs.Answer.{Answer, gives, refuses, _>>=_, bound, passed}
+use borrow.Author.Tests.{leb-false, ltb-false}
+use lib.Dec.{leb, ltb}
+use Rattle.answer.specs.Answer.{gives, refuses}
+use Rattle.answer.specs.Each.{Each, each-gives, each-past, each-bind, each-at}
+use Rattle.answer.specs.Tools.{neither}
 use Rattle.divider.specs.declared.Family.the-variants.{V4x7}
-use Rattle.divider.specs.Divide.{ahbOf, ahbDivisor, ahbDivisors, apbOf, apbDivisor, byAhbOf, byApbOf}
-use Rattle.divider.specs.Facts.{Between, times}
-use Rattle.divider.specs.Laws.{ahb-given, apb-given}
+use Rattle.divider.specs.Divide.{ahbOf, ahbDivisor, ahbDivisors, apbOf, apbDivisor, byAhbOf, apbQuotientOf}
+use Rattle.divider.specs.Facts.{Between, between-times}
+use Rattle.divider.specs.Frequency.{whole, over}
+use Rattle.divider.specs.Laws.{ahb-each, apb-each}
 use Rattle.tree.specs.Tree.{clocksOf, belowOf, busOf, timerClock}
-use Rattle.v4x7_rules.specs.Rules.{busesOf, totalOf, adcFromHclkOf, adcFromUsbHsOf}
+use Rattle.v4x7_rules.specs.Rules.{twoThirds, busesOf, totalOf, adcFromHclkOf, adcFromUsbHsOf}
 
 -- the ADC's own divisor
 own : (adcpre : ℕ) → adcpre < 4 → Between 8 (2 * (adcpre + 1))
 own adcpre h = record { low = omega arith; high = omega arith }
 
 -- the whole divisor of an ADC source that is divided by 1 to 512: never 0, and at most 65,536
-total-given : (ppre2 adcpre : ℕ) {d t : ℕ} → Between 512 d → totalOf d ppre2 adcpre ≡ gives t → Between 65536 t
+total : (d ppre2 adcpre : ℕ) → Each (λ t. Between 512 d → Between 65536 t) (totalOf d ppre2 adcpre)
 unfolding totalOf
-total-given ppre2 adcpre {d} {t} h q =
-    let last : ℕ → Answer ℕ = λ p. gives (d * p * (2 * (adcpre + 1))) in
-    let narrow = passed 28 (leb 4 adcpre) (_>>=_ (apbOf ppre2) last) q in
-    let b = bound (apbOf ppre2) last (narrow .after) in
-    let same : d * b .value * (2 * (adcpre + 1)) ≡ t = cc (b .after) in
-    subst (Between 65536) same (times (times h (apb-given ppre2 (b .gave))) (own adcpre (leb-false 4 adcpre (narrow .failed))))
+total d ppre2 adcpre =
+    each-past 28 (leb 4 adcpre) (λ narrow. each-bind (apb-each ppre2) (λ p h.
+    each-gives (λ within. between-times (between-times within h) (own adcpre (leb-false 4 adcpre narrow)))))
 
-pub usbhs-given : (ppre2 adcpre : ℕ) {d : ℕ} {x : ℕ × ℕ} → Between 512 d → adcFromUsbHsOf d ppre2 adcpre ≡ gives x → Between 65536 (x .1)
+-- so that of each source of the ADC: no caller divides by 0
+
+from-usbhs : (d ppre2 adcpre : ℕ) → Each (λ (x : ℕ × ℕ). Between 65536 (x .1)) (adcFromUsbHsOf d ppre2 adcpre)
 unfolding adcFromUsbHsOf
-usbhs-given ppre2 adcpre {d} {x} h q =
-    let b = bound (totalOf d ppre2 adcpre) (λ t. gives (480000000, t)) q in
-    let same : b .value ≡ x .1 = cc (b .after) in
-    subst (Between 65536) same (total-given ppre2 adcpre h (b .gave))
+from-usbhs d ppre2 adcpre =
+    each-bind (total d ppre2 adcpre) (λ t divides. each-past 14 (ltb d 1 || ltb 32 d) (λ e.
+    let within = neither (ltb d 1) (ltb 32 d) e in
+    each-gives (divides (record { low = ltb-false d 1 (within .0); high = omega (arith, ltb-false 32 d (within .1)) }))))
+
+from-hclk : (sys hpre ppre2 adcpre : ℕ) → Each (λ (x : ℕ × ℕ). Between 65536 (x .1)) (adcFromHclkOf sys hpre ppre2 adcpre)
+unfolding adcFromHclkOf
+from-hclk sys hpre ppre2 adcpre =
+    each-bind (ahb-each V4x7 hpre) (λ a within. each-bind (total a ppre2 adcpre) (λ t divides. each-gives (divides within)))
+
+pub usbhs-given : (d ppre2 adcpre : ℕ) {x : ℕ × ℕ} → adcFromUsbHsOf d ppre2 adcpre ≡ gives x → Between 65536 (x .1)
+usbhs-given d ppre2 adcpre = each-at (from-usbhs d ppre2 adcpre)
 
 pub hclk-given : (sys hpre ppre2 adcpre : ℕ) {x : ℕ × ℕ} → adcFromHclkOf sys hpre ppre2 adcpre ≡ gives x → Between 65536 (x .1)
-unfolding adcFromHclkOf
-hclk-given sys hpre ppre2 adcpre {x} q =
-    let a = bound (ahbOf V4x7 hpre) (λ a. _>>=_ (totalOf a ppre2 adcpre) (λ t. gives (sys, t))) q in
-    let b = bound (totalOf (a .value) ppre2 adcpre) (λ t. gives (sys, t)) (a .after) in
-    let same : b .value ≡ x .1 = cc (b .after) in
-    subst (Between 65536) same (total-given ppre2 adcpre (ahb-given V4x7 hpre (a .gave)) (b .gave))
+hclk-given sys hpre ppre2 adcpre = each-at (from-hclk sys hpre ppre2 adcpre)
+
+-- two thirds of USBHS 320 MHz, two thirds of ETH 333,333,333 Hz
+pub two-thirds-of-usbhs : twoThirds 480000000 ≡ whole 320000000
+unfolding twoThirds over
+two-thirds-of-usbhs = refl
+
+pub two-thirds-of-eth : twoThirds 500000000 ≡ whole 333333333
+unfolding twoThirds over
+two-thirds-of-eth = refl
 
 -- HCLK above 200 MHz is refused from the first hertz on, though no configuration comes to that one
-pub hclk-limit : busesOf 200000001 0 0 0 ≡ refuses 12
-unfolding busesOf clocksOf belowOf busOf timerClock byAhbOf ahbOf ahbDivisor ahbDivisors byApbOf apbOf apbDivisor
+pub hclk-limit : busesOf (whole 200000001) 0 0 0 ≡ refuses 12
+unfolding busesOf clocksOf belowOf busOf timerClock byAhbOf ahbOf ahbDivisor ahbDivisors apbQuotientOf apbOf apbDivisor over
 hclk-limit = refl

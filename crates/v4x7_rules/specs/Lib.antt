@@ -1,2 +1,4 @@
 pub mod Rules
 pub mod Laws
+pub mod Plain
+pub mod Order

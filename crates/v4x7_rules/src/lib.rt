@@ -1,16 +1,20 @@
 // The frequency rules of CH32V407/CH32V467, as the check of a configuration and the decoder of the registers share them.
 //
-// Where a rule needs HSE it takes the answer to "which HSE?": the check has tested HSE's range before, the decoder tests it where HSE is used.
+// Where a rule needs HSE, HSE must be there and in range. The check has tested the range before, the decoder tests it where HSE is used.
 ghost use mathlib.Core.Path.{_≡_};
 ghost use Prim.Native.Nat.{_≤_, _<_};
-ghost use Rattle.answer.specs.Said.{replied, done};
-ghost use Rattle.tree.specs.Tree.{running};
-ghost use Rattle.v4x7_rules.specs.Rules.{hseOf, inputOf, mainPllOf, ethPllOf, referenceCodeOf, sysPllOf, busesOf, rated, totalOf, adcFromHclkOf, adcFromUsbHsOf};
+ghost use Rattle.answer.specs.Said.{replySays, outcomeSays};
+ghost use Rattle.divider.specs.Frequency.{rateSays};
+ghost use Rattle.tree.specs.Tree.{busesSays};
+ghost use Rattle.v4x7_rules.specs.Rules.{hseInRange, usedHseOf, mainPllInput, mainPllOf, ethPllOf, referenceCodeOf, twoThirds, mainOutput, sysPllOf, busesOf, ratioSays, totalOf, adcFromHclkOf, adcFromUsbHsOf};
 use answer::Outcome;
 use answer::Reply;
-use answer::refusal;
 use divider::Family;
+use divider::Frequency;
+use divider::Rate;
 use tree::Buses;
+use tree::HseFrequency;
+use tree::Output;
 
 pub const HSI_FREQUENCY: u32 = 20_000_000;
 
@@ -53,74 +57,85 @@ const PLL_MUL_X2: [u8; 32] = [
     80,
 ];
 
-// HSE's frequency in Hz, where there is an HSE.
-pub enum HseFrequency {
-    Absent,
-    Hz(u32),
-}
-
 // What the ADC divides: a source in Hz and its whole divisor, or a refusal number.
 pub enum Ratio {
     Of { source: u32, divisor: u32 },
     Refused(u8),
 }
 
-// HSE's frequency, where it is one that the chip takes.
-pub fn hse_frequency(hz: u32) -> Reply
-    ensures { λ r. ⌜ replied r ≡ hseOf hz ⌝ }
+// Whether HSE's frequency is one that the chip takes.
+pub fn hse_in_range(hz: u32) -> Outcome
+    ensures { λ r. ⌜ outcomeSays r ≡ hseInRange hz ⌝ }
 {
     if (hz < 5_000_000) | (32_000_000 < hz) {
-        return Reply::Refused(answer::HSE_OUT_OF_RANGE);
+        return Outcome::Refused(answer::HSE_OUT_OF_RANGE);
     }
-    Reply::Is(hz)
+    Outcome::Done
+}
+
+// HSE's frequency, where HSE is used.
+pub fn used_hse(hse: HseFrequency) -> Rate
+    ensures { λ r. ⌜ rateSays r ≡ usedHseOf hse ⌝ }
+{
+    let HseFrequency::Hz(hz) = hse else {
+        return Rate::Refused(answer::HSE_MISSING);
+    };
+    match hse_in_range(hz) {
+        Outcome::Refused(n) => Rate::Refused(n),
+        Outcome::Done => Rate::At(divider::hertz(hz)),
+    }
 }
 
 // What feeds the main PLL: HSE where its source bit is set, else HSI.
-fn pll_input(hse: Reply, source: bool) -> Reply
-    ensures { λ r. ⌜ replied r ≡ inputOf (replied hse) source ⌝ }
+fn main_pll_input(hse: HseFrequency, source: bool) -> Rate
+    ensures { λ r. ⌜ rateSays r ≡ mainPllInput hse source ⌝ }
 {
     if source {
-        hse
+        used_hse(hse)
     } else {
-        Reply::Is(HSI_FREQUENCY)
+        Rate::At(divider::hertz(HSI_FREQUENCY))
     }
 }
 
 // The main PLL's output, by its source bit and the code of its multiplier.
-pub fn main_pll(hse: Reply, source: bool, mul: u8) -> Reply
-    ensures { λ r. ⌜ replied r ≡ mainPllOf (replied hse) source mul ⌝ }
+pub fn main_pll(hse: HseFrequency, source: bool, mul: u8) -> Rate
+    ensures { λ r. ⌜ rateSays r ≡ mainPllOf hse source mul ⌝ }
 {
     if 32 <= mul {
-        return Reply::Refused(answer::CODE_NOT_ALLOWED);
+        return Rate::Refused(answer::CODE_NOT_ALLOWED);
     }
-    let input = pll_input(hse, source);
-    let Reply::Is(hz) = input else {
-        return input;
+    let rate = main_pll_input(hse, source);
+    let Rate::At(input) = rate else {
+        return rate;
     };
-    let output = tree::product(hz, PLL_MUL_X2[mul as usize]);
-    if (output < 100_000_000) | (400_000_000 < output) {
-        return Reply::Refused(answer::PLL_OUT_OF_RANGE);
+    let output = tree::product(input, PLL_MUL_X2[mul as usize]);
+    if (output.hz < 100_000_000) | (400_000_000 < output.hz) {
+        return Rate::Refused(answer::PLL_OUT_OF_RANGE);
     }
-    Reply::Is(output as u32)
+    Rate::At(Frequency {
+        hz: output.hz as u32,
+    })
 }
 
 // Whether the ETH PLL can run: it takes HSE at 25 MHz alone.
-pub fn eth_pll(hse: Reply) -> Outcome
-    ensures { λ r. ⌜ done r ≡ ethPllOf (replied hse) ⌝ }
+pub fn eth_pll(hse: HseFrequency) -> Outcome
+    ensures { λ r. ⌜ outcomeSays r ≡ ethPllOf hse ⌝ }
 {
-    let Reply::Is(hz) = hse else {
-        return Outcome::Refused(refusal(hse));
-    };
-    if hz == 25_000_000 {
-        Outcome::Done
-    } else {
-        Outcome::Refused(answer::ETH_NEEDS_25_MHZ)
+    match used_hse(hse) {
+        Rate::Refused(n) => Outcome::Refused(n),
+        Rate::At(input) => {
+            if input.hz == 25_000_000 {
+                Outcome::Done
+            } else {
+                Outcome::Refused(answer::ETH_NEEDS_25_MHZ)
+            }
+        }
     }
 }
 
 // The code of a reference that the USBHS PLL takes.
 pub fn reference_code(hz: u32) -> Reply
-    ensures { λ r. ⌜ replied r ≡ referenceCodeOf hz ⌝ }
+    ensures { λ r. ⌜ replySays r ≡ referenceCodeOf hz ⌝ }
 {
     match hz {
         25_000_000 => Reply::Is(0),
@@ -131,26 +146,44 @@ pub fn reference_code(hz: u32) -> Reply
     }
 }
 
+// Two thirds of a PLL: the product first, since a third may be rounded.
+fn two_thirds(hz: u32) -> Frequency
+    requires { ⌜ hz ≤ 500000000 ⌝ }
+    ensures { λ r. ⌜ r ≡ twoThirds hz ⌝ }
+{
+    divider::by_one_more(divider::hertz(hz * 2), 2)
+}
+
+// The main PLL's output, where there is one.
+fn main_output(main: Output) -> Rate
+    ensures { λ r. ⌜ rateSays r ≡ mainOutput main ⌝ }
+{
+    match main {
+        Output::Absent => Rate::Refused(answer::SYSPLL_WITHOUT_PLL),
+        Output::At(frequency) => Rate::At(frequency),
+    }
+}
+
 // What SYSPLL takes in by its source, before its divisor; `main` is the main PLL's output.
-pub fn syspll_input(source: u8, main: u32) -> Reply
-    ensures { λ r. ⌜ replied r ≡ sysPllOf source main ⌝ }
+pub fn syspll_input(source: u8, main: Output) -> Rate
+    ensures { λ r. ⌜ rateSays r ≡ sysPllOf source main ⌝ }
 {
     if 8 <= source {
-        return Reply::Refused(answer::CODE_NOT_ALLOWED);
+        return Rate::Refused(answer::CODE_NOT_ALLOWED);
     }
     match source {
-        0 => Reply::Is(USBHS_PLL_FREQUENCY),
-        1 => Reply::Is(ETH_PLL_FREQUENCY),
-        2 => Reply::Is(USBHS_PLL_FREQUENCY / 3 * 2),
-        3 => Reply::Is(1_000_000_000 / 3),
-        6 => Reply::Is(main),
-        _ => Reply::Refused(answer::SYSPLL_SOURCE_RESERVED),
+        0 => Rate::At(divider::hertz(USBHS_PLL_FREQUENCY)),
+        1 => Rate::At(divider::hertz(ETH_PLL_FREQUENCY)),
+        2 => Rate::At(two_thirds(USBHS_PLL_FREQUENCY)),
+        3 => Rate::At(two_thirds(ETH_PLL_FREQUENCY)),
+        6 => main_output(main),
+        _ => Rate::Refused(answer::SYSPLL_SOURCE_RESERVED),
     }
 }
 
 // The six clocks of a SYSCLK, with HCLK within its limit.
-pub fn bus_clocks(sysclk: u32, ahb: u8, apb1: u8, apb2: u8) -> Buses
-    ensures { λ r. ⌜ running r ≡ busesOf sysclk ahb apb1 apb2 ⌝ }
+pub fn bus_clocks(sysclk: Frequency, ahb: u8, apb1: u8, apb2: u8) -> Buses
+    ensures { λ r. ⌜ busesSays r ≡ busesOf sysclk ahb apb1 apb2 ⌝ }
 {
     let buses = tree::bus_clocks(Family::V4x7, sysclk, ahb, apb1, apb2);
     let Buses::Run(clocks) = buses else {
@@ -165,7 +198,7 @@ pub fn bus_clocks(sysclk: u32, ahb: u8, apb1: u8, apb2: u8) -> Buses
 // The ADC's whole divisor: its source's own, APB2's, and 2, 4, 6 or 8.
 fn adc_divisor(first: u32, ppre2: u8, adcpre: u8) -> Reply
     requires { ⌜ first ≤ 512 ⌝ }
-    ensures { λ r. ⌜ replied r ≡ totalOf first ppre2 adcpre ⌝ }
+    ensures { λ r. ⌜ replySays r ≡ totalOf first ppre2 adcpre ⌝ }
 {
     if 4 <= adcpre {
         return Reply::Refused(answer::CODE_NOT_ALLOWED);
@@ -179,32 +212,34 @@ fn adc_divisor(first: u32, ppre2: u8, adcpre: u8) -> Reply
 
 // The ADC on HCLK: SYSCLK by the AHB divisor, APB2's and its own.
 pub fn adc_from_hclk(sysclk: u32, hpre: u8, ppre2: u8, adcpre: u8) -> Ratio
-    ensures { λ r. ⌜ rated r ≡ adcFromHclkOf sysclk hpre ppre2 adcpre ⌝ }
+    ensures { λ r. ⌜ ratioSays r ≡ adcFromHclkOf sysclk hpre ppre2 adcpre ⌝ }
 {
-    let ahb = divider::ahb(Family::V4x7, hpre);
-    let Reply::Is(a) = ahb else {
-        return Ratio::Refused(refusal(ahb));
-    };
-    let total = adc_divisor(a, ppre2, adcpre);
-    let Reply::Is(divisor) = total else {
-        return Ratio::Refused(refusal(total));
-    };
-    Ratio::Of {
-        source: sysclk,
-        divisor,
+    match divider::ahb(Family::V4x7, hpre) {
+        Reply::Refused(n) => Ratio::Refused(n),
+        Reply::Is(ahb) => match adc_divisor(ahb, ppre2, adcpre) {
+            Reply::Refused(n) => Ratio::Refused(n),
+            Reply::Is(divisor) => Ratio::Of {
+                source: sysclk,
+                divisor,
+            },
+        },
     }
 }
 
 // The ADC on the USBHS PLL: 480 MHz by a divisor, APB2's and its own.
 pub fn adc_from_usbhs(divisor: u8, ppre2: u8, adcpre: u8) -> Ratio
-    ensures { λ r. ⌜ rated r ≡ adcFromUsbHsOf divisor ppre2 adcpre ⌝ }
+    ensures { λ r. ⌜ ratioSays r ≡ adcFromUsbHsOf divisor ppre2 adcpre ⌝ }
 {
-    let total = adc_divisor(divisor as u32, ppre2, adcpre);
-    let Reply::Is(all) = total else {
-        return Ratio::Refused(refusal(total));
-    };
-    Ratio::Of {
-        source: USBHS_PLL_FREQUENCY,
-        divisor: all,
+    match adc_divisor(divisor as u32, ppre2, adcpre) {
+        Reply::Refused(n) => Ratio::Refused(n),
+        Reply::Is(total) => {
+            if (divisor < 1) | (32 < divisor) {
+                return Ratio::Refused(answer::ADC_DIVISOR);
+            }
+            Ratio::Of {
+                source: USBHS_PLL_FREQUENCY,
+                divisor: total,
+            }
+        }
     }
 }

@@ -16,11 +16,20 @@ fn read(kind: u8, length: usize, bytes: &[u8]) -> Query {
 /// Each good profile with each of its 80 bits turned over.
 pub const DAMAGED: usize = GOOD.len() * 80;
 pub fn damaged(i: usize) -> Query {
-    let mut d = Digits(i);
-    let mut profile = profile_of(&d.from(&GOOD));
+    turned_over(Digits(i), &GOOD)
+}
+
+fn turned_over(mut d: Digits, configs: &[[u8; CONFIG]]) -> Query {
+    let mut profile = profile_of(&d.from(configs));
     let bit = d.of(80);
     profile[bit / 8] ^= 0x80 >> (bit % 8);
     read(READ_PROFILE, 10, &profile)
+}
+
+/// The same of the good profile without any part, and of one with every part.
+pub const TURNED: usize = 2 * 80;
+pub fn turned(i: usize) -> Query {
+    turned_over(Digits(i), &[GOOD[0], GOOD[10]])
 }
 
 /// Readers and writers at every length.

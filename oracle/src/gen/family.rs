@@ -174,12 +174,23 @@ fn from(source: u8) -> Choice {
 
 fn v1_named(at: usize) -> Choice {
     let (mul, apb) = V1_NAMED[at % 3];
-    Choice { mul, apb1: apb, apb2: apb, ..from(1 - at as u8 / 3) }
+    Choice {
+        mul,
+        apb1: apb,
+        apb2: apb,
+        ..from(1 - at as u8 / 3)
+    }
 }
 
 fn v30x_named(at: usize) -> Choice {
     let (source, mul, apb) = V30X_NAMED[at];
-    Choice { mul, apb1: apb, apb2: apb, usbhs: Some((source == 1, 1)), ..from(source) }
+    Choice {
+        mul,
+        apb1: apb,
+        apb2: apb,
+        usbhs: Some((source == 1, 1)),
+        ..from(source)
+    }
 }
 
 /// The check of a named configuration, by its place in the Rust's file.

@@ -8,6 +8,7 @@ mod fields;
 pub mod good;
 mod h4;
 pub mod random;
+mod rules;
 pub mod startup;
 mod wide;
 
@@ -17,7 +18,7 @@ use random::Random;
 /// A set of all combinations of something: how many, how many of them the recorded list takes, and each by its place.
 type Set = (usize, usize, fn(usize) -> Query);
 
-const SETS: [Set; 36] = [
+const SETS: [Set; 41] = [
     (check::DIVIDERS, 90, check::dividers),
     (check::MULTIPLIERS, 90, check::multipliers),
     (check::LIMITS, 180, check::limits),
@@ -42,6 +43,7 @@ const SETS: [Set; 36] = [
     (h4::PCLKS, 90, h4::pclks),
     (h4::MULTIPLIERS, 90, h4::multipliers),
     (codec::DAMAGED, 90, codec::damaged),
+    (codec::TURNED, codec::TURNED, codec::turned),
     (codec::LENGTHS, 90, codec::lengths),
     (codec::BITS, 90, codec::bits),
     (startup::STOPPED, 150, startup::stopped),
@@ -53,6 +55,10 @@ const SETS: [Set; 36] = [
     (startup::ASKED, startup::ASKED, startup::asked),
     (startup::LONG, 0, startup::long),
     (wide::EACH, wide::EACH, wide::each),
+    (rules::MAIN_PLLS, rules::MAIN_PLLS, rules::main_plls),
+    (rules::SYSPLLS, rules::SYSPLLS, rules::syspll_inputs),
+    (rules::ADC_RATIOS, rules::ADC_RATIOS, rules::adc_ratios),
+    (rules::PLL_OUTPUTS, rules::PLL_OUTPUTS, rules::pll_outputs),
     (fields::SELECTIONS, 400, fields::selections),
 ];
 

@@ -207,7 +207,10 @@ fn call_of(state: &State, reading: [u8; 2]) -> Query {
     let last = state.last.map_or(vec![0; 7], |last| {
         [&[1, last.number, last.step], &last.used.to_be_bytes()[..]].concat()
     });
-    query(CALL, &[&state.config, &state.fields, &[state.step], &numbers, &reading, &last])
+    query(
+        CALL,
+        &[&state.config, &state.fields, &[state.step], &numbers, &reading, &last],
+    )
 }
 
 /// A startup as it stands: run for some calls with readings that meet, then perhaps changed.
@@ -308,7 +311,11 @@ pub fn over(i: usize) -> Query {
     };
     let mut state = at_step(&mut r, &config, step);
     state.unmet = if number == 21 { 1_000_000 } else { 0 };
-    state.last = Some(Last { number, step, used: state.used });
+    state.last = Some(Last {
+        number,
+        step,
+        used: state.used,
+    });
     match d.of(3) {
         0 => {}
         1 => state.config[15] = r.pick(&[1, 7, 16]),
@@ -348,7 +355,13 @@ fn change(r: &mut Random, state: &mut State) {
         6 => super::config::set_frequency(&mut state.config, 4_999_999),
         // Fields that don't hold what was written: at step 28 the clocks then differ (23).
         7 if state.step == 28 => state.fields[r.pick(&[16, 17, 18, 25])] ^= 1,
-        8 => state.last = Some(Last { number: r.pick(&[0, 21, 22, 23]), step: r.pick(&WAITS), used: r.word() }),
+        8 => {
+            state.last = Some(Last {
+                number: r.pick(&[0, 21, 22, 23]),
+                step: r.pick(&WAITS),
+                used: r.word(),
+            })
+        }
         // Other fields than were written: steps 21 and 27 go by the configuration.
         9 => state.fields[30] ^= 1,
         10 => state.fields[13] ^= 1,

@@ -109,7 +109,11 @@ fn state_of(q: &Query) -> State {
         last: None,
     };
     if q[68] != 0 {
-        state.last = Some(Last { number: q[69], step: q[70], used: number(&q[71..]) });
+        state.last = Some(Last {
+            number: q[69],
+            step: q[70],
+            used: number(&q[71..]),
+        });
     }
     state.config.copy_from_slice(&q[1..24]);
     state.fields.copy_from_slice(&q[24..57]);

@@ -69,7 +69,7 @@ pub fn write_image(q: &Query) -> Answer {
     written(WRITE_IMAGE, number, lent, &bytes)
 }
 
-/// The lent output afterwards: `lent` is its length and what each of its bytes held before.
+/// The lent output afterwards: `capi_give` is its length and what each of its bytes held before.
 fn written(kind: u8, number: u8, lent: &[u8], bytes: &[u8]) -> Answer {
     let mut output = vec![lent[1]; lent[0] as usize];
     if number == 0 {

@@ -5,6 +5,7 @@ pub mod call;
 pub mod codec;
 pub mod codes;
 pub mod layout;
+mod rules;
 
 use crate::record::*;
 use crate::rust::startup;
@@ -14,6 +15,7 @@ pub fn alone(q: &Query) -> Option<Answer> {
     match q[0] {
         CALL => Some(call::answer(q)),
         OWED | BOUND => Some(call::owed(q)),
+        MAIN_PLL | SYSPLL | ADC_RATIO | PLL_OUTPUT => Some(rules::answer(q)),
         READ_PROFILE => Some(codec::read_profile(q)),
         WRITE_PROFILE => Some(codec::write_profile(q)),
         READ_IMAGE => Some(codec::read_image(q)),

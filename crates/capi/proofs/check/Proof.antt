@@ -1,7 +1,7 @@
 use borrow.Author.Needs.{needs}
 use Rattle.capi.specs.Calls.{checkRead}
-use Rattle.v4x7.specs.Check.{accepted}
-use Rattle.profile.specs.Profile.{profileRead}
+use Rattle.v4x7.specs.Check.{checkedSays}
+use Rattle.profile.specs.Profile.{readProfileSays}
 use Rattle.answer.specs.Answer.{told}
 use Rattle.capi.proofs.check.Statement.{statement}
 use Rattle.capi.proofs.check.Tie as tie
@@ -14,15 +14,11 @@ returns c =
     let at-read-profile = at-config .before .before in
     let not-accepted = c .before .enum-told .given .1 in
     simp (
-      told profileRead (at-read-profile .read-profile .ensures) (at-config .config .given .1),
-      told accepted (at-clocks .clocks .ensures) not-accepted,
+      told readProfileSays (at-read-profile .read-profile .ensures) (at-config .config .given .1),
+      told checkedSays (at-clocks .clocks .ensures) not-accepted,
       c .refused .ensures,
       not-accepted,
     )
-
-returns-2 : tie.Need-returns-2
-unfolding checkRead
-returns-2 c = simp (told profileRead (c .before .before .before .read-profile .ensures) (c .before .n .given .1))
 
 returns-3 : tie.Need-returns-3
 unfolding checkRead
@@ -31,11 +27,12 @@ returns-3 c =
     let at-config = at-clocks .before .before in
     let at-read-profile = at-config .before .before in
     simp (
-      told profileRead (at-read-profile .read-profile .ensures) (at-config .config .given .1),
-      told accepted (at-clocks .clocks .ensures) (c .before .checked .given .1),
+      told readProfileSays (at-read-profile .read-profile .ensures) (at-config .config .given .1),
+      told checkedSays (at-clocks .clocks .ensures) (c .before .checked .given .1),
     )
 
 pub check-spec : {M : Type 1} → statement M
+unfolding checkRead
 check-spec =
     tie.close
     (tie.spec
@@ -47,5 +44,5 @@ check-spec =
     (search needs)
     (search needs)
     returns
-    returns-2
+    (λ c. simp (told readProfileSays (c .before .before .before .read-profile .ensures) (c .before .n .given .1)))
     returns-3)

@@ -1,30 +1,23 @@
 use mathlib.Core.Path.{sym}
 use borrow.Author.Needs.{needs}
 use Rattle.capi.specs.Calls.{decodeRead}
-use Rattle.image.specs.Image.{imageRead}
+use Rattle.image.specs.Image.{readImageSays}
 use Rattle.answer.specs.Answer.{told}
 use Rattle.capi.proofs.decode.Statement.{statement}
 use Rattle.capi.proofs.decode.Tie as tie
 
 returns : tie.Need-returns
 unfolding decodeRead
-returns c = simp (told imageRead (c .before .before .before .read-image .ensures) (c .before .n .given .1))
+returns c = simp (told readImageSays (c .before .before .before .read-image .ensures) (c .before .n .given .1))
 
 returns-2 : tie.Need-returns-2
 unfolding decodeRead
 returns-2 c =
     let at-fields = c .before .before .before in
     let at-read-image = at-fields .before .before in
-    simp (told imageRead (at-read-image .read-image .ensures) (at-fields .fields .given .1), sym (c .before .hse .ensures)) (c .decode .ensures)
+    simp (told readImageSays (at-read-image .read-image .ensures) (at-fields .fields .given .1), sym (c .before .hse .ensures)) (c .decode .ensures)
 
 pub decode-spec : {M : Type 1} → statement M
 decode-spec =
     tie.close
-    (tie.spec
-    (search needs)
-    (search needs)
-    (search needs)
-    (search needs)
-    (search needs)
-    returns
-    returns-2)
+    (tie.spec (search needs) (search needs) (search needs) (search needs) (search needs) returns returns-2)

@@ -1,7 +1,7 @@
 use mathlib.Core.Path.{sym, ap}
 use borrow.Author.Needs.{needs}
-use Rattle.lent.specs.Giving.{carried}
-use Rattle.lent.specs.Given.{sevenWords}
+use Rattle.capi_give.specs.Giving.{carried}
+use Rattle.capi_give.specs.Given.{sevenWords}
 use Rattle.capi.proofs.wontabeli_check.Statement.{statement}
 use Rattle.capi.proofs.wontabeli_check.Tie as tie
 

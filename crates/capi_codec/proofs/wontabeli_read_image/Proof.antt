@@ -1,10 +1,11 @@
-use mathlib.Core.Path.{refl}
+use mathlib.Core.Path.{refl, _∙_}
 use borrow.Author.Needs.{needs}
-use Rattle.image.specs.Image.{widths, imageRead}
+use Rattle.image.specs.Image.{widths, readImageSays}
 use Rattle.layout.specs.Bits.{cut}
 use Rattle.capi_codec.specs.Codec.{imageFields}
-use Rattle.lent.specs.Giving.{short, refused, given-as}
+use Rattle.capi_give.specs.Giving.{short, refused, given-as}
 use Rattle.answer.specs.Answer.{told}
+use Rattle.capi_codec.proofs.Making.{all-loaded}
 use Rattle.capi_codec.proofs.wontabeli_read_image.Statement.{statement}
 use Rattle.capi_codec.proofs.wontabeli_read_image.Tie as tie
 
@@ -20,18 +21,18 @@ enum-known-n c = search needs
 enum-told : tie.Need-enum-told
 enum-told c = search needs
 
-slice-aggregate-cut-into : tie.Need-slice-aggregate-cut-into
-slice-aggregate-cut-into c = search needs
+slice-aggregate-load : tie.Need-slice-aggregate-load
+slice-aggregate-load c = search needs
 
-cut-into-requires : tie.Need-cut-into-requires
-cut-into-requires c κs = search needs
+load-requires : tie.Need-load-requires
+load-requires c κs = search needs
 
 returns-2 : tie.Need-returns-2
 unfolding imageFields
 returns-2 c =
     let at-read-image = c .before .before .before in
     let at-if1 = at-read-image .before in
-    refused _ _ _ _ (at-if1 .if1 .left) (rw (told imageRead (at-read-image .read-image .ensures) (c .before .n .given .1)) refl)
+    refused _ _ _ _ (at-if1 .if1 .left) (rw (told readImageSays (at-read-image .read-image .ensures) (c .before .n .given .1)) refl)
 
 same-length : tie.Need-same-length
 same-length c = search needs
@@ -39,24 +40,16 @@ same-length c = search needs
 returns-3 : tie.Need-returns-3
 unfolding imageFields
 returns-3 c =
-    let at-cut-into = c .before .before in
-    let at-enum-told = at-cut-into .before .before .before in
+    let at-load = c .before .before in
+    let at-enum-told = at-load .before .before .before in
     let at-read-image = at-enum-told .before .before in
     let at-if1 = at-read-image .before in
     let at-args = at-if1 .before .before .before in
     given-as _ _ _ (cut widths (at-args .args .from .now) 0) _ (at-if1 .if1 .left)
-    (rw (told imageRead (at-read-image .read-image .ensures) (at-enum-told .enum-told .given .1)) refl) (at-cut-into .cut-into .ensures)
+    (rw (told readImageSays (at-read-image .read-image .ensures) (at-enum-told .enum-told .given .1)) refl)
+    (at-load .load .ensures ∙ all-loaded widths (at-args .args .from .now) (at-args .args .out .now) (at-if1 .if1 .left))
 
 pub wontabeli-read-image-spec : {M : Type 1} → statement M
 wontabeli-read-image-spec =
     tie.close
-    (tie.spec
-    returns
-    read-image-requires
-    enum-known-n
-    enum-told
-    slice-aggregate-cut-into
-    cut-into-requires
-    returns-2
-    same-length
-    returns-3)
+    (tie.spec returns read-image-requires enum-known-n enum-told slice-aggregate-load load-requires returns-2 same-length returns-3)

@@ -2,8 +2,8 @@ use borrow.Author.Tests.{not-true, not-false}
 use mathlib.Core.Path.{refl}
 use borrow.Author.Needs.{needs}
 use Rattle.capi_codec.specs.Codec.{profileFrom}
-use Rattle.profile.specs.Profile.{readProfile, profileRead}
-use Rattle.lent.specs.Giving.{short, refused, passed-on}
+use Rattle.profile.specs.Profile.{readProfile, readProfileSays}
+use Rattle.capi_give.specs.Giving.{short, refused, passed-on}
 use Rattle.answer.specs.Answer.{told}
 use Rattle.capi_codec.proofs.Making.{misfit, size, unread, reads}
 use Rattle.capi_codec.proofs.wontabeli_write_profile.Statement.{statement}
@@ -17,7 +17,7 @@ unfolding profileFrom
 returns-2 c =
     let at-store = c .before .before in
     let at-if1 = at-store .before .before .before in
-    refused _ _ _ _ (at-if1 .if1 .left) (misfit readProfile 30 10 _ _ _ _ _ (at-store .store .ensures) (not-true _ (c .if2 .taken)))
+    refused _ _ _ _ (at-if1 .if1 .left) (misfit readProfile 30 10 _ _ _ _ _ (at-store .store .ensures) refl refl refl (not-true _ (c .if2 .taken)))
 
 returns-3 : tie.Need-returns-3
 unfolding profileFrom
@@ -27,8 +27,8 @@ returns-3 c =
     let at-store = at-if2 .before .before in
     let at-if1 = at-store .before .before .before in
     let fits = not-false _ (at-if2 .if2 .left) in
-    let read = told profileRead (at-read-profile .read-profile .ensures) (c .enum-told .given .1) in
-    refused _ _ _ _ (at-if1 .if1 .left) (unread readProfile 30 10 _ _ _ _ _ (at-store .store .ensures) refl refl fits _ read)
+    let read = told readProfileSays (at-read-profile .read-profile .ensures) (c .enum-told .given .1) in
+    refused _ _ _ _ (at-if1 .if1 .left) (unread readProfile 30 10 _ _ _ _ _ (at-store .store .ensures) refl refl refl fits _ read)
 
 returns-4 : tie.Need-returns-4
 unfolding profileFrom
@@ -39,25 +39,12 @@ returns-4 c =
     let at-if2 = at-read-profile .before .before in
     let at-store = at-if2 .before .before in
     let fits = not-false _ (at-if2 .if2 .left) in
-    let read = told profileRead (at-read-profile .read-profile .ensures) (at-enum-told2 .enum-told2 .given .1) in
-    passed-on _ _ _ _ _ _ (size readProfile 30 10 _ _ _ _ _ (at-store .store .ensures) refl refl fits)
-    (reads readProfile 30 10 _ _ _ _ _ (at-store .store .ensures) refl refl fits _ read) (at-give-bytes .give-bytes .ensures)
+    let read = told readProfileSays (at-read-profile .read-profile .ensures) (at-enum-told2 .enum-told2 .given .1) in
+    passed-on _ _ _ _ _ _ (size readProfile 30 10 _ _ _ _ _ (at-store .store .ensures) refl refl refl fits)
+    (reads readProfile 30 10 _ _ _ _ _ (at-store .store .ensures) refl refl refl fits _ read) (at-give-bytes .give-bytes .ensures)
 
 pub wontabeli-write-profile-spec : {M : Type 1} → statement M
 wontabeli-write-profile-spec =
     tie.close
-    (tie.spec
-    returns
-    (search needs)
-    (search needs)
-    (search needs)
-    returns-2
-    (search needs)
-    (search needs)
-    (search needs)
-    (search needs)
-    (search needs)
-    (search needs)
-    returns-3
-    (search needs)
-    returns-4)
+    (tie.spec returns (search needs) (search needs) (search needs) returns-2 (search needs) (search needs) (search needs) (search needs)
+    (search needs) (search needs) returns-3 (search needs) returns-4)

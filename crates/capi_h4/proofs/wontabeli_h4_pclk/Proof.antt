@@ -1,7 +1,7 @@
 use mathlib.Core.Path.{sym, ap}
 use borrow.Author.Needs.{needs}
-use Rattle.lent.specs.Giving.{carried}
-use Rattle.lent.specs.Given.{twoWords}
+use Rattle.capi_give.specs.Giving.{carried}
+use Rattle.capi_give.specs.Given.{twoWords}
 use Rattle.capi_h4.proofs.wontabeli_h4_pclk.Statement.{statement}
 use Rattle.capi_h4.proofs.wontabeli_h4_pclk.Tie as tie
 

@@ -1,14 +1,10 @@
 use borrow.Author.Needs.{needs}
 use Rattle.answer.specs.Answer.{told}
-use Rattle.image.specs.Image.{imageRead}
-use Rattle.profile.specs.Profile.{profileRead}
+use Rattle.image.specs.Image.{readImageSays}
+use Rattle.profile.specs.Profile.{readProfileSays}
 use Rattle.capi_startup.specs.Calls.{startRead}
 use Rattle.capi_startup.proofs.begin.Statement.{statement}
 use Rattle.capi_startup.proofs.begin.Tie as tie
-
-returns : tie.Need-returns
-unfolding startRead
-returns c = simp (told profileRead (c .before .before .before .read-profile .ensures) (c .before .n .given .1))
 
 returns-2 : tie.Need-returns-2
 unfolding startRead
@@ -17,8 +13,8 @@ returns-2 c =
     let at-config = at-read-image .before .before in
     let at-read-profile = at-config .before .before in
     simp (
-      told profileRead (at-read-profile .read-profile .ensures) (at-config .config .given .1),
-      told imageRead (at-read-image .read-image .ensures) (c .before .n2 .given .1),
+      told readProfileSays (at-read-profile .read-profile .ensures) (at-config .config .given .1),
+      told readImageSays (at-read-image .read-image .ensures) (c .before .n2 .given .1),
     )
 
 returns-3 : tie.Need-returns-3
@@ -29,11 +25,12 @@ returns-3 c =
     let at-config = at-read-image .before .before in
     let at-read-profile = at-config .before .before in
     simp (
-      told profileRead (at-read-profile .read-profile .ensures) (at-config .config .given .1),
-      told imageRead (at-read-image .read-image .ensures) (at-fields .fields .given .1),
+      told readProfileSays (at-read-profile .read-profile .ensures) (at-config .config .given .1),
+      told readImageSays (at-read-image .read-image .ensures) (at-fields .fields .given .1),
     ) (c .start .ensures)
 
 pub begin-spec : {M : Type 1} → statement M
+unfolding startRead
 begin-spec =
     tie.close
     (tie.spec
@@ -44,6 +41,6 @@ begin-spec =
     (search needs)
     (search needs)
     (search needs)
-    returns
+    (λ c. simp (told readProfileSays (c .before .before .before .read-profile .ensures) (c .before .n .given .1)))
     returns-2
     returns-3)

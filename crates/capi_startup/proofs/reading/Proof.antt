@@ -4,9 +4,6 @@ use Rattle.capi_startup.specs.Calls.{readingOf}
 use Rattle.capi_startup.proofs.reading.Statement.{statement}
 use Rattle.capi_startup.proofs.reading.Tie as tie
 
-returns : tie.Need-returns
-unfolding readingOf
-returns c = refl
-
 pub reading-spec : {M : Type 1} → statement M
-reading-spec = tie.close (tie.spec (search needs) (search needs) returns)
+unfolding readingOf
+reading-spec = tie.close (tie.spec (search needs) (search needs) (λ c. refl))

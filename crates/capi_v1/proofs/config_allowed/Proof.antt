@@ -7,21 +7,11 @@ returns : tie.Need-returns
 unfolding configAllowed
 returns c =
     let hse-allowed = c .before .before .before .before .before .before .hse-allowed in
-    let frequency = c .before .before .before .before .before .before .before .frequency in
-    rw (hse-allowed .ensures, frequency .ensures)
+    let hse-hz = c .before .before .before .before .before .before .before .hse-hz in
+    rw (hse-allowed .ensures, hse-hz .ensures)
 
 pub config-allowed-spec : {M : Type 1} → statement M
 config-allowed-spec =
     tie.close
-    (tie.spec
-    (search needs)
-    (search needs)
-    (search needs)
-    (search needs)
-    (search needs)
-    (search needs)
-    (search needs)
-    (search needs)
-    (search needs)
-    (search needs)
-    returns)
+    (tie.spec (search needs) (search needs) (search needs) (search needs) (search needs) (search needs) (search needs) (search needs)
+    (search needs) (search needs) returns)

@@ -1,20 +1,16 @@
 use borrow.Author.Tests.{lt-ltb, le-ltb}
 use borrow.Author.Needs.{needs}
-use Rattle.capi_v1.specs.Calls.{takenFields, decodeRead}
+use Rattle.capi_v1.specs.Calls.{takenFieldsSays, decodeRead}
 use Rattle.answer.specs.Answer.{told}
 use Rattle.capi_v1.proofs.decode.Statement.{statement}
 use Rattle.capi_v1.proofs.decode.Tie as tie
-
-returns : tie.Need-returns
-unfolding decodeRead
-returns c = simp (lt-ltb _ _ (c .if1 .taken))
 
 returns-2 : tie.Need-returns-2
 unfolding decodeRead
 returns-2 c =
     let if1 = c .before .before .before .before .if1 in
     let take-fields = c .before .before .before .take-fields in
-    simp (le-ltb _ _ (if1 .left), told takenFields (take-fields .ensures) (c .before .n .given .1))
+    simp (le-ltb _ _ (if1 .left), told takenFieldsSays (take-fields .ensures) (c .before .n .given .1))
 
 returns-3 : tie.Need-returns-3
 unfolding decodeRead
@@ -25,22 +21,15 @@ returns-3 c =
     let chip = c .before .before .chip in
     simp (
       le-ltb _ _ (if1 .left),
-      told takenFields (take-fields .ensures) (fields .given .1),
+      told takenFieldsSays (take-fields .ensures) (fields .given .1),
       c .decode .ensures,
       chip .ensures,
-      c .before .hse-number .ensures,
+      c .before .decoder-hse .ensures,
     )
 
 pub decode-spec : {M : Type 1} → statement M
+unfolding decodeRead
 decode-spec =
     tie.close
-    (tie.spec
-    returns
-    (search needs)
-    (search needs)
-    (search needs)
-    (search needs)
-    (search needs)
-    (search needs)
-    returns-2
-    returns-3)
+    (tie.spec (λ c. simp (lt-ltb _ _ (c .if1 .taken)))
+    (search needs) (search needs) (search needs) (search needs) (search needs) (search needs) returns-2 returns-3)

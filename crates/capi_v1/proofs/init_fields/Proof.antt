@@ -1,20 +1,16 @@
 use borrow.Author.Tests.{lt-ltb, le-ltb}
 use borrow.Author.Needs.{needs}
-use Rattle.capi_v1.specs.Calls.{takenConfig, takenFields, initRead}
+use Rattle.capi_v1.specs.Calls.{takenConfigSays, takenFieldsSays, initRead}
 use Rattle.answer.specs.Answer.{told}
 use Rattle.capi_v1.proofs.init_fields.Statement.{statement}
 use Rattle.capi_v1.proofs.init_fields.Tie as tie
-
-returns : tie.Need-returns
-unfolding initRead
-returns c = simp (lt-ltb _ _ (c .if1 .taken))
 
 returns-2 : tie.Need-returns-2
 unfolding initRead
 returns-2 c =
     let if1 = c .before .before .before .before .if1 in
     let take-config = c .before .before .before .take-config in
-    simp (le-ltb _ _ (if1 .left), told takenConfig (take-config .ensures) (c .before .n .given .1))
+    simp (le-ltb _ _ (if1 .left), told takenConfigSays (take-config .ensures) (c .before .n .given .1))
 
 returns-3 : tie.Need-returns-3
 unfolding initRead
@@ -25,8 +21,8 @@ returns-3 c =
     let take-fields = c .before .before .before .take-fields in
     simp (
       le-ltb _ _ (if1 .left),
-      told takenConfig (take-config .ensures) (config .given .1),
-      told takenFields (take-fields .ensures) (c .before .n2 .given .1),
+      told takenConfigSays (take-config .ensures) (config .given .1),
+      told takenFieldsSays (take-fields .ensures) (c .before .n2 .given .1),
     )
 
 returns-4 : tie.Need-returns-4
@@ -39,25 +35,16 @@ returns-4 c =
     let fields = c .before .before .before .f in
     simp (
       le-ltb _ _ (if1 .left),
-      told takenConfig (take-config .ensures) (config .given .1),
-      told takenFields (take-fields .ensures) (fields .given .1),
+      told takenConfigSays (take-config .ensures) (config .given .1),
+      told takenFieldsSays (take-fields .ensures) (fields .given .1),
       c .init-fields .ensures,
       c .before .chip .ensures,
     )
 
 pub init-fields-spec : {M : Type 1} → statement M
+unfolding initRead
 init-fields-spec =
     tie.close
-    (tie.spec
-    returns
-    (search needs)
-    (search needs)
-    (search needs)
-    (search needs)
-    (search needs)
-    (search needs)
-    (search needs)
-    (search needs)
-    returns-2
-    returns-3
-    returns-4)
+    (tie.spec (λ c. simp (lt-ltb _ _ (c .if1 .taken)))
+    (search needs) (search needs) (search needs) (search needs) (search needs) (search needs) (search needs) (search needs) returns-2
+    returns-3 returns-4)

@@ -5,14 +5,6 @@ use Rattle.capi_v1.specs.Calls.{readFields}
 use Rattle.capi_v1.proofs.take_fields.Statement.{statement}
 use Rattle.capi_v1.proofs.take_fields.Tie as tie
 
-returns : tie.Need-returns
-unfolding readFields
-returns c = simp (ne-eqb _ _ (c .if1 .taken))
-
-returns-2 : tie.Need-returns-2
-unfolding readFields
-returns-2 c = simp (eq-eqb _ _ (c .before .before .if1 .left), sym (c .before .fields-allowed .ensures), c .if2 .taken)
-
 returns-3 : tie.Need-returns-3
 unfolding readFields
 returns-3 c =
@@ -21,5 +13,10 @@ returns-3 c =
     simp (eq-eqb _ _ (if1 .left), sym (fields-allowed .ensures), c .before .if2 .left, sym (c .fields-in .ensures))
 
 pub take-fields-spec : {M : Type 1} → statement M
+unfolding readFields
 take-fields-spec =
-    tie.close (tie.spec returns (search needs) returns-2 (search needs) returns-3)
+    tie.close
+    (tie.spec (λ c. simp (ne-eqb _ _ (c .if1 .taken)))
+    (search needs)
+    (λ c. simp (eq-eqb _ _ (c .before .before .if1 .left), sym (c .before .fields-allowed .ensures), c .if2 .taken))
+    (search needs) returns-3)

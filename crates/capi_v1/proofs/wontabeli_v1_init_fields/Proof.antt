@@ -1,6 +1,6 @@
 use mathlib.Core.Path.{sym, ap}
 use borrow.Author.Needs.{needs}
-use Rattle.lent.specs.Giving.{carried}
+use Rattle.capi_give.specs.Giving.{carried}
 use Rattle.capi_v1.specs.Calls.{fieldBytes}
 use Rattle.capi_v1.proofs.wontabeli_v1_init_fields.Statement.{statement}
 use Rattle.capi_v1.proofs.wontabeli_v1_init_fields.Tie as tie
@@ -12,5 +12,4 @@ returns c =
     carried _ _ _ _ _ _ (give-fields .ensures) (ap fieldBytes (sym (init-fields .ensures)))
 
 pub wontabeli-v1-init-fields-spec : {M : Type 1} → statement M
-wontabeli-v1-init-fields-spec =
-    tie.close (tie.spec (search needs) (search needs) (search needs) returns)
+wontabeli-v1-init-fields-spec = tie.close (tie.spec (search needs) (search needs) (search needs) returns)

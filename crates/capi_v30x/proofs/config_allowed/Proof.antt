@@ -7,17 +7,8 @@ returns : tie.Need-returns
 unfolding configAllowed
 returns c =
     let hse-allowed = c .before .before .hse-allowed in
-    let frequency = c .before .before .before .frequency in
-    rw (hse-allowed .ensures, frequency .ensures, c .before .pll-allowed .ensures, c .usbhs-allowed .ensures)
+    let hse-hz = c .before .before .before .hse-hz in
+    rw (hse-allowed .ensures, hse-hz .ensures, c .before .pll-allowed .ensures, c .usbhs-allowed .ensures)
 
 pub config-allowed-spec : {M : Type 1} → statement M
-config-allowed-spec =
-    tie.close
-    (tie.spec
-    (search needs)
-    (search needs)
-    (search needs)
-    (search needs)
-    (search needs)
-    (search needs)
-    returns)
+config-allowed-spec = tie.close (tie.spec (search needs) (search needs) (search needs) (search needs) (search needs) (search needs) returns)

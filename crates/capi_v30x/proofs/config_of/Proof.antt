@@ -7,14 +7,16 @@ returns : tie.Need-returns
 unfolding configOf
 returns c =
     let at-source-of = c .before .before .before in
-    let at-pll = at-source-of .before .before .before .before .before .before in
+    let at-pllx = at-source-of .before .before .before .before .before in
+    let at-pll = at-pllx .before .before in
     let at-pll-source = at-pll .before .before .before .before in
     let at-hse = at-pll-source .before .before .before in
     rw (
-      at-hse .hse .ensures,
-      at-hse .before .frequency .ensures,
+      at-hse .config-hse .ensures,
+      at-hse .before .hse-hz .ensures,
       at-pll-source .pll-source .ensures,
       at-pll .pll .ensures,
+      at-pllx .pllx .ensures,
       at-source-of .source-of .ensures,
       c .hspll .ensures,
     )
@@ -22,25 +24,6 @@ returns c =
 pub config-of-spec : {M : Type 1} → statement M
 config-of-spec =
     tie.close
-    (tie.spec
-    (search needs)
-    (search needs)
-    (search needs)
-    (search needs)
-    (search needs)
-    (search needs)
-    (search needs)
-    (search needs)
-    (search needs)
-    (search needs)
-    (search needs)
-    (search needs)
-    (search needs)
-    (search needs)
-    (search needs)
-    (search needs)
-    (search needs)
-    (search needs)
-    (search needs)
-    (search needs)
-    returns)
+    (tie.spec (search needs) (search needs) (search needs) (search needs) (search needs) (search needs) (search needs) (search needs)
+    (search needs) (search needs) (search needs) (search needs) (search needs) (search needs) (search needs) (search needs) (search needs)
+    (search needs) (search needs) (search needs) (search needs) returns)

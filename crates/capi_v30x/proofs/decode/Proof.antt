@@ -1,12 +1,8 @@
 use borrow.Author.Needs.{needs}
-use Rattle.capi_v30x.specs.Calls.{takenFields, decodeRead}
+use Rattle.capi_v30x.specs.Calls.{takenFieldsSays, decodeRead}
 use Rattle.answer.specs.Answer.{told}
 use Rattle.capi_v30x.proofs.decode.Statement.{statement}
 use Rattle.capi_v30x.proofs.decode.Tie as tie
-
-returns : tie.Need-returns
-unfolding decodeRead
-returns c = simp (told takenFields (c .before .before .before .take-fields .ensures) (c .before .n .given .1))
 
 returns-2 : tie.Need-returns-2
 unfolding decodeRead
@@ -14,19 +10,15 @@ returns-2 c =
     let take-fields = c .before .before .before .before .before .take-fields in
     let fields = c .before .before .before .f in
     simp (
-      told takenFields (take-fields .ensures) (fields .given .1),
+      told takenFieldsSays (take-fields .ensures) (fields .given .1),
       c .decode .ensures,
-      c .before .hse-number .ensures,
+      c .before .decoder-hse .ensures,
     )
 
 pub decode-spec : {M : Type 1} → statement M
+unfolding decodeRead
 decode-spec =
     tie.close
-    (tie.spec
-    (search needs)
-    (search needs)
-    (search needs)
-    (search needs)
-    (search needs)
-    returns
+    (tie.spec (search needs) (search needs) (search needs) (search needs) (search needs)
+    (λ c. simp (told takenFieldsSays (c .before .before .before .take-fields .ensures) (c .before .n .given .1)))
     returns-2)

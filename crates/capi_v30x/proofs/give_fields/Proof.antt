@@ -1,7 +1,7 @@
 use lib.ListN.{length}
 use mathlib.Core.Path.{refl, sym, ap}
 use borrow.Author.Needs.{needs}
-use Rattle.lent.specs.Giving.{short, refused, passed-on}
+use Rattle.capi_give.specs.Giving.{short, refused, passed-on}
 use Rattle.answer.specs.Answer.{gives}
 use Rattle.capi_v30x.proofs.give_fields.Statement.{statement}
 use Rattle.capi_v30x.proofs.give_fields.Tie as tie
@@ -22,13 +22,4 @@ returns-3 c =
 pub give-fields-spec : {M : Type 1} → statement M
 give-fields-spec =
     tie.close
-    (tie.spec
-    returns
-    (search needs)
-    (search needs)
-    (search needs)
-    (search needs)
-    (search needs)
-    returns-2
-    (search needs)
-    returns-3)
+    (tie.spec returns (search needs) (search needs) (search needs) (search needs) (search needs) returns-2 (search needs) returns-3)

@@ -1,12 +1,8 @@
 use borrow.Author.Needs.{needs}
-use Rattle.capi_v30x.specs.Calls.{takenConfig, takenFields, initRead}
+use Rattle.capi_v30x.specs.Calls.{takenConfigSays, takenFieldsSays, initRead}
 use Rattle.answer.specs.Answer.{told}
 use Rattle.capi_v30x.proofs.init_fields.Statement.{statement}
 use Rattle.capi_v30x.proofs.init_fields.Tie as tie
-
-returns : tie.Need-returns
-unfolding initRead
-returns c = simp (told takenConfig (c .before .before .before .take-config .ensures) (c .before .n .given .1))
 
 returns-2 : tie.Need-returns-2
 unfolding initRead
@@ -15,8 +11,8 @@ returns-2 c =
     let config = c .before .before .before .before .before .c in
     let take-fields = c .before .before .before .take-fields in
     simp (
-      told takenConfig (take-config .ensures) (config .given .1),
-      told takenFields (take-fields .ensures) (c .before .n2 .given .1),
+      told takenConfigSays (take-config .ensures) (config .given .1),
+      told takenFieldsSays (take-fields .ensures) (c .before .n2 .given .1),
     )
 
 returns-3 : tie.Need-returns-3
@@ -27,22 +23,15 @@ returns-3 c =
     let take-fields = c .before .before .before .before .take-fields in
     let fields = c .before .before .f in
     simp (
-      told takenConfig (take-config .ensures) (config .given .1),
-      told takenFields (take-fields .ensures) (fields .given .1),
+      told takenConfigSays (take-config .ensures) (config .given .1),
+      told takenFieldsSays (take-fields .ensures) (fields .given .1),
       c .init-fields .ensures,
     )
 
 pub init-fields-spec : {M : Type 1} → statement M
+unfolding initRead
 init-fields-spec =
     tie.close
-    (tie.spec
-    (search needs)
-    (search needs)
-    (search needs)
-    (search needs)
-    (search needs)
-    (search needs)
-    (search needs)
-    returns
-    returns-2
-    returns-3)
+    (tie.spec (search needs) (search needs) (search needs) (search needs) (search needs) (search needs) (search needs)
+    (λ c. simp (told takenConfigSays (c .before .before .before .take-config .ensures) (c .before .n .given .1)))
+    returns-2 returns-3)

@@ -1,7 +1,7 @@
-use mathlib.Core.Path.{sym}
 use borrow.Author.Needs.{needs}
+use mathlib.Core.Path.{sym}
 use Rattle.answer.specs.Answer.{told}
-use Rattle.answer.specs.Said.{replied}
+use Rattle.divider.specs.Frequency.{rateSays}
 use Rattle.decoder.specs.Decode.{decodeOf}
 use Rattle.decoder.proofs.decode.Statement.{statement}
 use Rattle.decoder.proofs.decode.Tie as tie
@@ -15,14 +15,9 @@ unfolding decodeOf
 returns-2 c =
     let in-width = c .before .before .before .before .before .in-width in
     let if1 = c .before .before .before .before .if1 in
+    let enum-told = c .before .enum-told in
     let sysclk = c .before .before .before .sysclk in
-    simp (
-      sym (in-width .ensures),
-      if1 .left,
-      c .refusal .ensures,
-      c .before .enum-told .given .1,
-      told replied (sysclk .ensures) (c .before .enum-told .given .1),
-    )
+    simp (sym (in-width .ensures), if1 .left, c .refusal .ensures, enum-told .given .1, told rateSays (sysclk .ensures) (enum-told .given .1))
 
 returns-3 : tie.Need-returns-3
 unfolding decodeOf
@@ -30,24 +25,7 @@ returns-3 c =
     let in-width = c .before .before .before .before .before .before .in-width in
     let if1 = c .before .before .before .before .before .if1 in
     let sysclk = c .before .before .before .before .sysclk in
-    let system = c .before .before .system in
-    simp (
-      sym (in-width .ensures),
-      if1 .left,
-      told replied (sysclk .ensures) (system .given .1),
-      c .bus-clocks .ensures,
-    )
+    simp (sym (in-width .ensures), if1 .left, told rateSays (sysclk .ensures) (c .before .before .rate .given .1), c .bus-clocks .ensures)
 
 pub decode-spec : {M : Type 1} → statement M
-decode-spec =
-    tie.close
-    (tie.spec
-    (search needs)
-    returns
-    (search needs)
-    (search needs)
-    (search needs)
-    (search needs)
-    returns-2
-    (search needs)
-    returns-3)
+decode-spec = tie.close (tie.spec (search needs) returns (search needs) (search needs) (search needs) (search needs) returns-2 (search needs) returns-3)

@@ -1,20 +1,18 @@
 use borrow.Author.Needs.{needs}
 use borrow.Author.Tests.{eq-eqb, ne-eqb}
 use Rattle.answer.specs.Answer.{told}
-use Rattle.answer.specs.Said.{replied}
+use Rattle.divider.specs.Frequency.{rateSays}
 use Rattle.decoder.specs.Decode.{inUseOf}
 use Rattle.decoder.proofs.sysclk.Statement.{statement}
 use Rattle.decoder.proofs.sysclk.Tie as tie
 
 returns : tie.Need-returns
 unfolding inUseOf
-returns c = simp (eq-eqb _ _ (c .if1 .taken))
+returns c = simp (eq-eqb _ _ (c .before .if1 .taken), c .hertz .ensures)
 
 returns-2 : tie.Need-returns-2
 unfolding inUseOf
-returns-2 c =
-    let if1 = c .before .before .if1 in
-    simp (ne-eqb _ _ (if1 .left), eq-eqb _ _ (c .before .if2 .taken), c .used-hse .ensures)
+returns-2 c = simp (ne-eqb _ _ (c .before .before .if1 .left), eq-eqb _ _ (c .before .if2 .taken), c .used-hse .ensures)
 
 returns-3 : tie.Need-returns-3
 unfolding inUseOf
@@ -23,47 +21,20 @@ returns-3 c =
     let if2 = c .before .before .before .before .before .if2 in
     let if3 = c .before .before .before .before .if3 in
     let syspll-input = c .before .before .syspll-input in
-    simp (
-      ne-eqb _ _ (if1 .left),
-      ne-eqb _ _ (if2 .left),
-      eq-eqb _ _ (if3 .taken),
-      syspll-input .ensures,
-      told replied (syspll-input .ensures) (c .enum-told .given .1),
-    )
+    simp (ne-eqb _ _ (if1 .left), ne-eqb _ _ (if2 .left), eq-eqb _ _ (if3 .taken), syspll-input .ensures, told rateSays (syspll-input .ensures) (c .enum-told .given .1))
 
 returns-4 : tie.Need-returns-4
 unfolding inUseOf
 returns-4 c =
-    let at-input = c .before .before in
-    let at-syspll-input = at-input .before .before in
-    let at-if3 = at-syspll-input .before .before in
-    let at-if2 = at-if3 .before in
-    let at-if1 = at-if2 .before in
-    simp (
-      ne-eqb _ _ (at-if1 .if1 .left),
-      ne-eqb _ _ (at-if2 .if2 .left),
-      eq-eqb _ _ (at-if3 .if3 .taken),
-      told replied (at-syspll-input .syspll-input .ensures) (at-input .input .given .1),
-      c .by-one-more .ensures,
-    )
+    let if1 = c .before .before .before .before .before .before .before .before .if1 in
+    let if2 = c .before .before .before .before .before .before .before .if2 in
+    let if3 = c .before .before .before .before .before .before .if3 in
+    let syspll-input = c .before .before .before .before .syspll-input in
+    simp (ne-eqb _ _ (if1 .left), ne-eqb _ _ (if2 .left), eq-eqb _ _ (if3 .taken), told rateSays (syspll-input .ensures) (c .before .before .rate .given .1), c .by-one-more .ensures)
 
 returns-5 : tie.Need-returns-5
 unfolding inUseOf
-returns-5 c =
-    let if1 = c .before .before .if1 in
-    simp (ne-eqb _ _ (if1 .left), ne-eqb _ _ (c .before .if2 .left), ne-eqb _ _ (c .if3 .left))
+returns-5 c = simp (ne-eqb _ _ (c .before .before .if1 .left), ne-eqb _ _ (c .before .if2 .left), ne-eqb _ _ (c .if3 .left))
 
 pub sysclk-spec : {M : Type 1} → statement M
-sysclk-spec =
-    tie.close
-    (tie.spec
-    returns
-    (search needs)
-    returns-2
-    (search needs)
-    (search needs)
-    (search needs)
-    returns-3
-    (search needs)
-    returns-4
-    returns-5)
+sysclk-spec = tie.close (tie.spec (search needs) returns (search needs) returns-2 (search needs) (search needs) (search needs) returns-3 (search needs) returns-4 returns-5)

@@ -1,8 +1,8 @@
 use mathlib.Core.Path.{sym}
 use borrow.Author.Needs.{needs}
 use Rattle.answer.specs.Answer.{told}
-use Rattle.answer.specs.Said.{replied}
-use Rattle.tree.specs.Tree.{running}
+use Rattle.divider.specs.Frequency.{rateSays}
+use Rattle.tree.specs.Tree.{busesSays}
 use Rattle.h4.specs.H4.{prescaledOf}
 use Rattle.h4.proofs.clocks_from_sysclk.Statement.{statement}
 use Rattle.h4.proofs.clocks_from_sysclk.Tie as tie
@@ -14,7 +14,7 @@ returns c =
     simp (
       c .refusal .ensures,
       c .before .enum-told .given .1,
-      told replied (ahb-from-sysclk .ensures) (c .before .enum-told .given .1),
+      told rateSays (ahb-from-sysclk .ensures) (c .before .enum-told .given .1),
     )
 
 returns-2 : tie.Need-returns-2
@@ -25,9 +25,9 @@ returns-2 c =
     let at-divided = at-hclk-from-ahb .before .before in
     let at-ahb-from-sysclk = at-divided .before .before in
     simp (
-      told replied (at-ahb-from-sysclk .ahb-from-sysclk .ensures) (at-divided .divided .given .1),
+      told rateSays (at-ahb-from-sysclk .ahb-from-sysclk .ensures) (at-divided .divided .given .1),
       sym (at-hclk-from-ahb .hclk-from-ahb .ensures),
-      told running (at-below-hclk .below-hclk .ensures) (c .before .n .given .1),
+      told busesSays (at-below-hclk .below-hclk .ensures) (c .before .n .given .1),
     )
 
 returns-3 : tie.Need-returns-3
@@ -38,23 +38,13 @@ returns-3 c =
     let at-divided = at-hclk-from-ahb .before .before in
     let at-ahb-from-sysclk = at-divided .before .before in
     simp (
-      told replied (at-ahb-from-sysclk .ahb-from-sysclk .ensures) (at-divided .divided .given .1),
+      told rateSays (at-ahb-from-sysclk .ahb-from-sysclk .ensures) (at-divided .divided .given .1),
       sym (at-hclk-from-ahb .hclk-from-ahb .ensures),
-      told running (at-below-hclk .below-hclk .ensures) (c .before .clocks .given .1),
+      told busesSays (at-below-hclk .below-hclk .ensures) (c .before .clocks .given .1),
     )
 
 pub clocks-from-sysclk-spec : {M : Type 1} → statement M
 clocks-from-sysclk-spec =
     tie.close
-    (tie.spec
-    (search needs)
-    (search needs)
-    (search needs)
-    (search needs)
-    returns
-    (search needs)
-    (search needs)
-    (search needs)
-    (search needs)
-    returns-2
-    returns-3)
+    (tie.spec (search needs) (search needs) (search needs) (search needs) returns (search needs) (search needs) (search needs)
+    (search needs) returns-2 returns-3)

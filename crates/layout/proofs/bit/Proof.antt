@@ -42,13 +42,4 @@ returns-2 c =
 pub bit-spec : {M : Type 1} → statement M
 bit-spec =
     tie.close
-    (tie.spec
-    (search needs)
-    (search needs)
-    (search needs)
-    (search needs)
-    (search needs)
-    (search needs)
-    div-result
-    returns
-    returns-2)
+    (tie.spec (search needs) (search needs) (search needs) (search needs) (search needs) (search needs) div-result returns returns-2)

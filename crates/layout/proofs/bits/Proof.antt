@@ -74,16 +74,4 @@ returns c =
 pub bits-spec : {M : Type 1} → statement M
 bits-spec =
     tie.close
-    (tie.spec
-    Inv-loop
-    μ-loop
-    up-to-requires
-    loop-holds
-    mul-v
-    add-bit
-    bit-requires
-    add-v
-    add-i
-    loop-less
-    loop-again
-    returns)
+    (tie.spec Inv-loop μ-loop up-to-requires loop-holds mul-v add-bit bit-requires add-v add-i loop-less loop-again returns)

@@ -1,54 +1,82 @@
--- `layout::fits` meets its contract. The invariant: whether all fit is whether those from i on do. Assumes nothing.
-use mathlib.Core.Path.{_≡_, refl, _∙_}
+-- `layout::fits` meets its contract. The invariant: whether all fit is whether those from i on do, and the bits passed are counted. Assumes nothing.
+use mathlib.Core.Path.{_≡_, refl, sym, ap, ap₂, _∙_}
 use mathlib.Core.Bool.{Bool, true, false, _&&_, not}
 use mathlib.Core.List.{List, []}
-use Prim.Native.Nat.{ℕ, _+_, _≤_, _<_, _-_}
+use Prim.Native.Nat.{ℕ, _+_, _*_, _/_, _%_, _^_, _≤_, _<_, _-_}
 use native.Mathlib.Omega.{arith}
-use borrow.Author.Tests.{not-true, not-false}
-use lib.ListN.{length, drop, getD}
-use lib.Seq.{drop-length}
-use Rattle.layout.specs.Layout.{storable, storableIn}
-use Rattle.layout.proofs.Laws.{storable-at, storable-fitting, fitting-length}
+use borrow.Author.Tests.{not-true, not-false, leb-true}
+use lib.Dec.{eqb, leb, ltb}
+use lib.ListN.{length, drop, take, getD}
+use lib.Seq.{drop-length, take-length}
+use Rattle.layout.specs.Layout.{total, fieldsFit, fieldFits, storable}
+use Rattle.layout.proofs.Laws.{and-left, fits-at, fits-fitting, fitting-length, total-next}
 use borrow.Author.Needs.{needs}
 use Rattle.layout.proofs.fits.Statement.{statement}
 use Rattle.layout.proofs.fits.Tie as tie
 
+record Passed (ws xs : List ℕ) (size count i : ℕ) : Type 0 where
+  within : i ≤ length ws
+  same : fieldsFit ws xs ≡ fieldsFit (drop i ws) (drop i xs)
+  bits : 8 * size + count ≡ total (take i ws)
+  few : count < 8
+  near : size ≤ i
+
 abbrev Inv-loop : tie.InvT-loop
-Inv-loop ws xs i₀ i = (i ≤ length ws) × (storable ws xs ≡ storable (drop i ws) (drop i xs))
+Inv-loop ws xs room size₀ count₀ i₀ size count i = Passed ws xs size count i
 
 abbrev μ-loop : tie.MeasureT-loop
-μ-loop ws xs i₀ i = length ws - i
+μ-loop ws xs room size₀ count₀ i₀ size count i = length ws - i
 
-refuted : (b : Bool) → (b ≡ true → ⊥) → false ≡ b
+refuted : (b : Bool) → (b ≡ true → ⊥) → b ≡ false
 refuted true h = absurd (h refl)
 refuted false h = refl
 
-module _ (ws xs : List ℕ) where
-  unequal : (length ws ≡ length xs → ⊥) → false ≡ storable ws xs
-  unequal h = refuted (storable ws xs) (λ t. h (fitting-length ws xs (storable-fitting ws xs t)))
+module _ (ws xs : List ℕ) (room : ℕ) where
+  misfit : fieldsFit ws xs ≡ false → false ≡ storable ws xs room
+  misfit f = rw f
 
-  module _ (i : ℕ) (l : length ws ≡ length xs) (e : storable ws xs ≡ storable (drop i ws) (drop i xs)) where
-    module _ (t : Bool) (h : i < length ws) (f : t ≡ storableIn (getD ws i 0) (getD xs i 0)) where
-      next : storable ws xs ≡ (t && storable (drop (i + 1) ws) (drop (i + 1) xs))
-      next = let k : i < length xs = omega arith in e ∙ rw (storable-at ws xs i h k, f)
+  unequal : (length ws ≡ length xs → ⊥) → false ≡ storable ws xs room
+  unequal h = misfit (refuted (fieldsFit ws xs) (λ t. h (fitting-length ws xs (fits-fitting ws xs t))))
 
-      wrong : not t ≡ true → false ≡ storable ws xs
-      wrong k = rw (next, not-true t k)
+  module _ (size count i : ℕ) (l : length ws ≡ length xs) (p : Passed ws xs size count i) where
+    module _ (t : Bool) (h : i < length ws) (f : t ≡ fieldFits (getD ws i 0) (getD xs i 0)) where
+      next : fieldsFit ws xs ≡ (t && fieldsFit (drop (i + 1) ws) (drop (i + 1) xs))
+      next = let k : i < length xs = omega arith in p .same ∙ rw (fits-at ws xs i h k, f)
 
-      right : not t ≡ false → storable ws xs ≡ storable (drop (i + 1) ws) (drop (i + 1) xs)
-      right k = next ∙ rw (not-false t k)
+      wrong : not t ≡ true → false ≡ storable ws xs room
+      wrong k = misfit (next ∙ rw (not-true t k))
 
-    ended : i ≡ length ws → true ≡ storable ws xs
+      narrow : not t ≡ false → getD ws i 0 ≤ 8
+      narrow k =
+          let w = getD ws i 0 in
+          let x = getD xs i 0 in
+          leb-true w 8 (and-left (leb w 8) (ltb x (2 ^ w)) (sym f ∙ not-false t k))
+
+      right : not t ≡ false → Passed ws xs (size + (count + getD ws i 0) / 8) ((count + getD ws i 0) % 8) (i + 1)
+      right k = record {
+        within = omega arith;
+        same = next ∙ rw (not-false t k);
+        bits = omega (arith, p .bits, total-next ws i h);
+        few = omega arith;
+        near = omega (arith, p .near, p .few, narrow k);
+      }
+
+    ended : length ws ≤ i → (eqb count 0 && leb size room) ≡ storable ws xs room
     ended h =
-        let d : drop i ws ≡ [] = rw h (drop-length ws) in
-        let d′ : drop i xs ≡ [] = rw (h, l) (drop-length xs) in
-        rw (e, d, d′)
+        let e : i ≡ length ws = omega (arith, p .within) in
+        let d : drop i ws ≡ [] = rw e (drop-length ws) in
+        let d′ : drop i xs ≡ [] = rw (e, l) (drop-length xs) in
+        let f : fieldsFit ws xs ≡ true = p .same ∙ rw (d, d′) in
+        let n : total (take i ws) ≡ total ws = ap total (ap (λ (k : ℕ). take k ws) e ∙ take-length ws) in
+        let a : count ≡ total ws % 8 = omega (arith, p .bits, p .few) in
+        let b : size ≡ total ws / 8 = omega (arith, p .bits, p .few) in
+        rw f (ap₂ (λ (y z : ℕ). eqb y 0 && leb z room) a b)
 
 returns : tie.Need-returns Inv-loop μ-loop
-returns c = let s = c .before .before .before in unequal (s .args .ws .now) (s .args .xs .now) (c .if1 .taken)
+returns c = let s = c .before .before .before in unequal (s .args .ws .now) (s .args .xs .now) _ (c .if1 .taken)
 
 loop-holds : tie.Need-loop-holds Inv-loop μ-loop
-loop-holds c = (omega arith, refl)
+loop-holds c = record { within = omega arith; same = refl; bits = refl; few = omega arith; near = omega arith }
 
 shared-slice-read-fits-in : tie.Need-shared-slice-read-fits-in Inv-loop μ-loop
 shared-slice-read-fits-in c = search needs
@@ -65,8 +93,34 @@ returns-2 c =
     let l = at-test .before .loop in
     let at-if1 = at-test .before .before in
     let args = at-if1 .before .before .before .args in
-    wrong (args .ws .now) (args .xs .now) (l .i) (at-if1 .if1 .left) (l .inv .1)
+    wrong (args .ws .now) (args .xs .now) (args .room) (l .size) (l .count) (l .i) (at-if1 .if1 .left) (l .inv)
     _ (at-test .loop-test .taken) (c .before .fits-in .ensures) (c .if2 .taken)
+
+shared-slice-read-count : tie.Need-shared-slice-read-count Inv-loop μ-loop
+shared-slice-read-count c = search needs
+
+-- a width that was tested
+width : (c : tie.After-shared-slice-known5 Inv-loop μ-loop)
+    → let l = c .before .before .before .before .before .before in
+    getD (l .before .before .before .before .args .ws .now) (l .loop .i) 0 ≤ 8
+width c =
+    let at-test = c .before .before .before .before .before in
+    let l = at-test .before .loop in
+    let at-if1 = at-test .before .before in
+    let args = at-if1 .before .before .before .args in
+    narrow (args .ws .now) (args .xs .now) (args .room) (l .size) (l .count) (l .i) (at-if1 .if1 .left) (l .inv)
+    _ (at-test .loop-test .taken) (c .before .before .fits-in .ensures) (c .before .if2 .left)
+
+add-count : tie.Need-add-count Inv-loop μ-loop
+add-count c = omega (arith, width c, c .before .before .before .before .before .before .loop .inv .few)
+
+cast-size : tie.Need-cast-size Inv-loop μ-loop
+cast-size c = omega (arith, width c, c .before .before .before .before .before .before .loop .inv .few)
+
+add-size : tie.Need-add-size Inv-loop μ-loop
+add-size c =
+    let l = c .before .before .before .before .before .before in
+    omega (arith, width c, l .loop .inv .few, l .loop .inv .near)
 
 add-i : tie.Need-add-i Inv-loop μ-loop
 add-i c = search needs
@@ -76,34 +130,21 @@ loop-less c = search needs
 
 loop-again : tie.Need-loop-again Inv-loop μ-loop
 loop-again c =
-    let at-test = c .before .before .before .before in
+    let at-test = c .before .before .before .before .before in
     let l = at-test .before .loop in
     let at-if1 = at-test .before .before in
-    let args = at-if1 .before .before .before .args in (
-      search needs,
-      right (args .ws .now) (args .xs .now) (l .i) (at-if1 .if1 .left) (l .inv .1)
-          _ (at-test .loop-test .taken) (c .before .fits-in .ensures) (c .if2 .left),
-    )
+    let args = at-if1 .before .before .before .args in
+    right (args .ws .now) (args .xs .now) (args .room) (l .size) (l .count) (l .i) (at-if1 .if1 .left) (l .inv)
+    _ (at-test .loop-test .taken) (c .before .before .fits-in .ensures) (c .before .if2 .left)
 
 returns-3 : tie.Need-returns-3 Inv-loop μ-loop
 returns-3 c =
     let l = c .before .loop in
-    let s = c .before .before .before .before .before in
-    ended (s .args .ws .now) (s .args .xs .now) (l .i) (c .before .before .if1 .left) (l .inv .1) (omega arith)
+    let args = c .before .before .before .before .before .args in
+    ended (args .ws .now) (args .xs .now) (args .room) (l .size) (l .count) (l .i) (c .before .before .if1 .left) (l .inv) (c .loop-test .left)
 
 pub fits-spec : {M : Type 1} → statement M
 fits-spec =
     tie.close
-    (tie.spec
-    Inv-loop
-    μ-loop
-    returns
-    loop-holds
-    shared-slice-read-fits-in
-    shared-slice-read-fits-in-2
-    fits-in-requires
-    returns-2
-    add-i
-    loop-less
-    loop-again
-    returns-3)
+    (tie.spec Inv-loop μ-loop returns loop-holds shared-slice-read-fits-in shared-slice-read-fits-in-2 fits-in-requires returns-2
+    shared-slice-read-count add-count cast-size add-size add-i loop-less loop-again returns-3)

@@ -1,115 +1,131 @@
--- `layout::store` meets its contract. The invariant: what the bytes hold, with the fields from i on shifted in, is the whole. Assumes nothing.
-use mathlib.Core.Path.{_≡_, refl, sym, ap, _∙_}
-use mathlib.Core.Bool.{Bool, true, false, _&&_}
-use mathlib.Core.List.{List, []}
-use Prim.Native.Nat.{ℕ, _+_, _*_, _^_, _≤_, _<_, _-_}
+-- `layout::store` meets its contract. The invariant: the first i fields are gathered. Assumes nothing.
+use mathlib.Core.Path.{_≡_, refl, sym, ap, ap₂, _∙_}
+use mathlib.Core.Bool.{true, false, _&&_}
+use mathlib.Core.List.{List, _++_}
+use Prim.Native.Nat.{ℕ, _+_, _*_, _%_, _^_, _≤_, _<_, _-_}
 use native.Mathlib.Omega.{arith}
-use borrow.Author.Tests.{leb-true}
-use lib.ListN.{length, drop, getD, length-replicate}
-use lib.Seq.{drop-length}
-use lib.Dec.{leb, ltb}
-use Rattle.layout.specs.Layout.{unpack, pack, fitting, bytes, total, num, Bytes, storable, storableIn, shifted}
+use borrow.Author.Tests.{leb-true, ltb-true, eqb-true, not-true, not-false}
+use lib.Dec.{eqb, leb, ltb}
+use lib.ListN.{length, take, drop, getD, take-append-drop}
+use lib.Seq.{take-length, length-take-le}
+use Rattle.layout.specs.Layout.{total, pack, unpack, bytes, num, fieldsFit, sizeOf, storable, packed}
+use Rattle.layout.specs.declared.Pending.{Pending}
+use Rattle.layout.specs.Gathered.{Gathered, Fits}
 use Rattle.layout.specs.Stored.{Stored}
-use Rattle.layout.proofs.Laws.{and-left, and-right, storable-at, storable-fitting, fitting-length, fitting-bytes, fitting-unpack, length-unpack, num-unpack, shift-wrapped, shift-at, unpack-pack}
+use Rattle.layout.proofs.Laws.{and-left, and-right, fits-each, fits-fitting, fitting-length, total-next, total-take, pack-next, unpack-pack}
 use borrow.Author.Needs.{needs}
 use Rattle.layout.proofs.store.Statement.{statement}
 use Rattle.layout.proofs.store.Tie as tie
 
-record Shifting (ws xs from out : List ℕ) (i : ℕ) : Type 0 where
+record Storing (ws xs was out : List ℕ) (p : Pending) (i : ℕ) : Type 0 where
   within : i ≤ length ws
-  long : length out ≡ length from
-  fit : storable (drop i ws) (drop i xs) ≡ true
-  low : Bytes out
-  whole : unpack (bytes (length from)) (num out * 2 ^ total (drop i ws) + pack (drop i ws) (drop i xs)) ≡ shifted ws xs from
+  gathered : Gathered was (total (take i ws)) (pack (take i ws) (take i xs)) out p
 
 abbrev Inv-loop : tie.InvT-loop
-Inv-loop ws xs out₀ i₀ out i = Shifting ws xs out₀ out i
+Inv-loop ws xs out₀ p₀ i₀ out p i = Storing ws xs out₀ out p i
 
 abbrev μ-loop : tie.MeasureT-loop
-μ-loop ws xs out₀ i₀ out i = length ws - i
+μ-loop ws xs out₀ p₀ i₀ out p i = length ws - i
 
-module _ (ws xs from out : List ℕ) (i : ℕ) (e : length ws ≡ length xs) (d : Shifting ws xs from out i) where
-  ended : i ≡ length ws → out ≡ shifted ws xs from
-  ended h =
-      let z : drop i ws ≡ [] = rw h (drop-length ws) in
-      let a : unpack (bytes (length from)) (num out * 1 + 0) ≡ shifted ws xs from = rw z at (d .whole) in
-      let b : num out * 1 + 0 ≡ num out = omega arith in
-      sym (unpack-pack (bytes (length out)) out (d .low)) ∙ ap (λ (n : ℕ). unpack (bytes n) (num out)) (d .long)
-      ∙ ap (unpack (bytes (length from))) (sym b) ∙ a
+module _ (ws xs was : List ℕ) (t : storable ws xs (length was) ≡ true) where
+  fit : fieldsFit ws xs ≡ true
+  fit = and-left (fieldsFit ws xs) (eqb (total ws % 8) 0 && leb (sizeOf ws) (length was)) t
 
-  module _ (h : i < length ws) where
-    both : (storableIn (getD ws i 0) (getD xs i 0) && storable (drop (i + 1) ws) (drop (i + 1) xs)) ≡ true
-    both = let k : i < length xs = omega arith in sym (storable-at ws xs i h k) ∙ d .fit
+  sized : (eqb (total ws % 8) 0 && leb (sizeOf ws) (length was)) ≡ true
+  sized = and-right (fieldsFit ws xs) (eqb (total ws % 8) 0 && leb (sizeOf ws) (length was)) t
 
-    narrow : getD ws i 0 ≤ 8
-    narrow =
-        let w = getD ws i 0 in
-        let x = getD xs i 0 in
-        leb-true w 8 (and-left (leb w 8) (ltb x (2 ^ w)) (and-left (storableIn w x) (storable (drop (i + 1) ws) (drop (i + 1) xs)) both))
+  whole : total ws % 8 ≡ 0
+  whole = eqb-true (total ws % 8) 0 (and-left (eqb (total ws % 8) 0) (leb (sizeOf ws) (length was)) sized)
 
-    next : (o : List ℕ) → o ≡ unpack (bytes (length out)) (num out * 2 ^ getD ws i 0 + getD xs i 0) → Shifting ws xs from o (i + 1)
-    next o f =
-        let k : i < length xs = omega arith in
-        let v = num out * 2 ^ getD ws i 0 + getD xs i 0 in
-        let n = length from in
-        let g : o ≡ unpack (bytes n) v = f ∙ ap (λ (m : ℕ). unpack (bytes m) v) (d .long) in
-        let l : length o ≡ n = ap length g ∙ length-unpack (bytes n) v ∙ length-replicate n 8 in
-        let t = 2 ^ total (drop (i + 1) ws) in
-        let r = pack (drop (i + 1) ws) (drop (i + 1) xs) in
-        record {
-          within = omega arith;
-          long = l;
-          fit = and-right (storableIn (getD ws i 0) (getD xs i 0)) (storable (drop (i + 1) ws) (drop (i + 1) xs)) both;
-          low = ap (λ (m : ℕ). fitting (bytes m) o) l ∙ ap (fitting (bytes n)) g ∙ fitting-unpack (bytes n) v;
-          whole =
-              ap (λ (m : ℕ). unpack (bytes n) (m * t + r)) (ap num g ∙ num-unpack n v) ∙ shift-wrapped (bytes n) v t r
-              ∙ ap (unpack (bytes n)) (shift-at ws xs i h k (num out)) ∙ d .whole;
-        }
+  room : sizeOf ws ≤ length was
+  room = leb-true (sizeOf ws) (length was) (and-right (eqb (total ws % 8) 0) (leb (sizeOf ws) (length was)) sized)
 
-done : (ws xs l l′ : List ℕ) (r : Bool) → storable ws xs ≡ r → r ≡ true → l′ ≡ shifted ws xs l → Stored ws xs l l′ true
-done ws xs l l′ r e h k = record { answer = sym (e ∙ h); bytes = rw (e ∙ h) k }
+  pub same-count : length ws ≡ length xs
+  same-count = fitting-length ws xs (fits-fitting ws xs fit)
 
-refused : (ws xs l : List ℕ) (r : Bool) → storable ws xs ≡ r → r ≡ false → Stored ws xs l l false
-refused ws xs l r e h = record { answer = sym (e ∙ h); bytes = rw (e ∙ h) }
+  module _ (out : List ℕ) (p : Pending) (i : ℕ) (d : Storing ws xs was out p i) where
+    module _ (h : i < length ws) where
+      next-fits : Fits (length out) p (getD ws i 0) (getD xs i 0)
+      next-fits =
+          let w = getD ws i 0 in
+          let x = getD xs i 0 in
+          let g = d .gathered in
+          let f = fits-each ws xs i fit h in
+          record {
+            few = g .few;
+            small = g .small;
+            narrow = leb-true w 8 (and-left (leb w 8) (ltb x (2 ^ w)) f);
+            below = ltb-true x (2 ^ w) (and-right (leb w 8) (ltb x (2 ^ w)) f);
+            place = omega (arith, g .bits, g .long, total-next ws i h, total-take ws (i + 1), whole, room);
+          }
 
--- past the test there are as many fields as widths
-same-count : (c : tie.Then1 Inv-loop μ-loop)
-    → let args = c .before .before .before .before .before .args in
-    length (args .ws .now) ≡ length (args .xs .now)
-same-count c =
-    let args = c .before .before .before .before .before .args in
-    let ws = args .ws .now in
-    let xs = args .xs .now in
-    fitting-length ws xs (storable-fitting ws xs (sym (c .before .fits2 .ensures) ∙ c .if1 .taken))
+      next : (o : List ℕ) (q : Pending)
+          → Gathered was (total (take i ws) + getD ws i 0) (pack (take i ws) (take i xs) * 2 ^ getD ws i 0 + getD xs i 0) o q
+          → Storing ws xs was o q (i + 1)
+      next o q g =
+          let k : i < length xs = omega (arith, same-count) in
+          record { within = omega arith; gathered = rw (total-next ws i h, pack-next ws xs i h k same-count) g }
+
+    ended : length ws ≤ i → out ≡ packed (sizeOf ws) ws xs ++ drop (sizeOf ws) was
+    ended h =
+        let n = sizeOf ws in
+        let e : i ≡ length ws = omega (arith, d .within) in
+        let f : i ≡ length xs = e ∙ same-count in
+        let a : take i ws ≡ ws = ap (λ (k : ℕ). take k ws) e ∙ take-length ws in
+        let b : take i xs ≡ xs = ap (λ (k : ℕ). take k xs) f ∙ take-length xs in
+        let g : Gathered was (total ws) (pack ws xs) out p = rw (a, b) at (d .gathered) in
+        let z : p .count ≡ 0 = omega (arith, g .bits, g .few, whole) in
+        let at : p .at ≡ n = omega (arith, g .bits, g .few, whole) in
+        let small : p .value < 2 ^ 0 = rw z at (g .small) in
+        let front = take n out in
+        let s : num front * 2 ^ 0 + p .value ≡ pack ws xs = rw (z, at) at (g .spells) in
+        let v : num front ≡ pack ws xs = omega arith in
+        let o : n ≤ length out = omega (arith, room, g .long) in
+        let l : length front ≡ n = length-take-le n out o in
+        let u : front ≡ packed n ws xs =
+        sym (unpack-pack (bytes (length front)) front (rw at at (g .low))) ∙ ap₂ (λ (k y : ℕ). unpack (bytes k) y) l v in
+        sym (take-append-drop n out) ∙ ap₂ (λ (y k : List ℕ). y ++ k) u (rw at at (g .beyond))
+
+    done : length ws ≤ i → Stored ws xs was out true
+    done h = record { answer = sym t; bytes = rw t (ended h) }
+
+refused : (ws xs l : List ℕ) → storable ws xs (length l) ≡ false → Stored ws xs l l false
+refused ws xs l e = record { answer = sym e; bytes = rw e }
 
 fits-requires : tie.Need-fits-requires Inv-loop μ-loop
 fits-requires c κs = search needs
 
+returns : tie.Need-returns Inv-loop μ-loop
+returns c =
+    let a = c .before .before .before .before .before .args in
+    refused (a .ws .now) (a .xs .now) (a .out .now) (sym (c .before .fits2 .ensures) ∙ not-true _ (c .if1 .taken))
+
 loop-holds : tie.Need-loop-holds Inv-loop μ-loop
-loop-holds c =
-    let s = c .before .before .before .before .before in
-    record {
-      within = omega arith;
-      long = refl;
-      fit = sym (c .before .fits2 .ensures) ∙ c .if1 .taken;
-      low = fitting-bytes (s .args .out .now) (λ i h. omega (arith, c .before .before .slice-known .given i));
-      whole = refl;
-    }
+loop-holds c = record {
+  within = omega arith;
+  gathered = record { bits = refl; few = omega arith; small = omega arith; spells = refl; low = refl; long = refl; beyond = refl };
+}
 
-shared-slice-read-shift-in : tie.Need-shared-slice-read-shift-in Inv-loop μ-loop
-shared-slice-read-shift-in c = search needs
+-- that the fields can be stored was tested
+tested : (c : tie.Else1 Inv-loop μ-loop)
+    → let a = c .before .before .before .before .before .args in storable (a .ws .now) (a .xs .now) (length (a .out .now)) ≡ true
+tested c = sym (c .before .fits2 .ensures) ∙ not-false _ (c .if1 .left)
 
-shared-slice-read-shift-in-2 : tie.Need-shared-slice-read-shift-in-2 Inv-loop μ-loop
-shared-slice-read-shift-in-2 c =
-    let e = same-count (c .before .before .before .before .before) in
-    omega arith
+shared-slice-read-gather : tie.Need-shared-slice-read-gather Inv-loop μ-loop
+shared-slice-read-gather c = search needs
 
-shift-in-requires : tie.Need-shift-in-requires Inv-loop μ-loop
-shift-in-requires c κs =
+shared-slice-read-gather-2 : tie.Need-shared-slice-read-gather-2 Inv-loop μ-loop
+shared-slice-read-gather-2 c =
+    let at-if1 = c .before .before .before .before .before in
+    let a = at-if1 .before .before .before .before .before .args in
+    omega (arith, same-count (a .ws .now) (a .xs .now) (a .out .now) (tested at-if1))
+
+gather-requires : tie.Need-gather-requires Inv-loop μ-loop
+gather-requires c κs =
     let at-test = c .before .before .before in
-    let at-if1 = at-test .before .before in
-    let args = at-if1 .before .before .before .before .before .args in
-    narrow (args .ws .now) (args .xs .now) (args .out .now) _ _ (same-count at-if1) (at-test .before .loop .inv) (at-test .loop-test .taken)
+    let l = at-test .before in
+    let a = l .before .before .before .before .before .before .args in
+    next-fits (a .ws .now) (a .xs .now) (a .out .now) (tested (l .before)) _ _ _ (l .loop .inv) (at-test .loop-test .taken)
 
 add-i : tie.Need-add-i Inv-loop μ-loop
 add-i c = search needs
@@ -120,41 +136,22 @@ loop-less c = search needs
 loop-again : tie.Need-loop-again Inv-loop μ-loop
 loop-again c =
     let at-test = c .before .before .before .before .before .before in
-    let at-if1 = at-test .before .before in
-    let args = at-if1 .before .before .before .before .before .args in
-    next (args .ws .now) (args .xs .now) (args .out .now) _ _ (same-count at-if1) (at-test .before .loop .inv) (at-test .loop-test .taken)
-    _ (c .before .before .shift-in .ensures)
+    let l = at-test .before in
+    let a = l .before .before .before .before .before .before .args in
+    next (a .ws .now) (a .xs .now) (a .out .now) (tested (l .before)) _ _ _ (l .loop .inv) (at-test .loop-test .taken) _ _
+    (c .before .before .gather .ensures .more _ _ _ (l .loop .inv .gathered))
 
 same-length : tie.Need-same-length Inv-loop μ-loop
-same-length c = c .before .loop .inv .long
-
-returns : tie.Need-returns Inv-loop μ-loop
-returns c =
-    let at-if1 = c .before .before in
-    let fits = at-if1 .before .fits2 in
-    let args = at-if1 .before .before .before .before .before .args in
-    done (args .ws .now) (args .xs .now) (args .out .now) _ _ (sym (fits .ensures)) (at-if1 .if1 .taken)
-    (ended (args .ws .now) (args .xs .now) (args .out .now) _ _ (same-count at-if1) (c .before .loop .inv) (omega arith))
+same-length c = c .before .loop .inv .gathered .long
 
 returns-2 : tie.Need-returns-2 Inv-loop μ-loop
 returns-2 c =
-    let s = c .before .before .before .before .before in
-    refused (s .args .ws .now) (s .args .xs .now) (s .args .out .now) _ (sym (c .before .fits2 .ensures)) (c .if1 .left)
+    let at-if1 = c .before .before in
+    let a = at-if1 .before .before .before .before .before .args in
+    done (a .ws .now) (a .xs .now) (a .out .now) (tested at-if1) _ _ _ (c .before .loop .inv) (c .loop-test .left)
 
 pub store-spec : {M : Type 1} → statement M
 store-spec =
     tie.close
-    (tie.spec
-    Inv-loop
-    μ-loop
-    fits-requires
-    loop-holds
-    shared-slice-read-shift-in
-    shared-slice-read-shift-in-2
-    shift-in-requires
-    add-i
-    loop-less
-    loop-again
-    same-length
-    returns
-    returns-2)
+    (tie.spec Inv-loop μ-loop fits-requires returns loop-holds shared-slice-read-gather shared-slice-read-gather-2 gather-requires add-i loop-less
+    loop-again same-length returns-2)

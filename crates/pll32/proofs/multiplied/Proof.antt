@@ -1,3 +1,4 @@
+use Prim.Native.Nat.{_<_}
 use mathlib.Core.Path.{sym}
 use borrow.Author.Needs.{needs}
 use borrow.Author.Tests.{lt-ltb, le-ltb}
@@ -7,17 +8,16 @@ use Rattle.pll32.proofs.multiplied.Statement.{statement}
 use Rattle.pll32.proofs.multiplied.Tie as tie
 
 mul-product : tie.Need-mul-product
-mul-product c = record { fits = below 32 (search needs) (search needs) }
-
-returns : tie.Need-returns
-unfolding multipliedOf
-returns c = simp (sym (c .before .factor-of .ensures), lt-ltb _ _ (c .if1 .taken))
+mul-product c =
+    let wide : c .before .before .args .input .hz < 4294967296 = search needs in
+    record { fits = below 32 wide (search needs) }
 
 returns-2 : tie.Need-returns-2
 unfolding multipliedOf
 returns-2 c =
-    let factor-of = c .before .before .before .before .factor-of in
-    let if1 = c .before .before .before .if1 in
+    let factor-of = c .before .before .before .before .before .before .factor-of in
+    let if1 = c .before .before .before .before .if1 in
+    let hertz = c .before .before .before .hertz in
     let halved = c .before .before .halved in
     simp (
       sym (factor-of .ensures),
@@ -25,25 +25,27 @@ returns-2 c =
       sym (halved .ensures),
       c .before .if2 .taken,
       c .by-one-more .ensures,
+      hertz .ensures,
     )
 
 returns-3 : tie.Need-returns-3
 unfolding multipliedOf
 returns-3 c =
-    let factor-of = c .before .before .before .factor-of in
-    let if1 = c .before .before .if1 in
-    simp (sym (factor-of .ensures), le-ltb _ _ (if1 .left), sym (c .before .halved .ensures), c .if2 .left)
+    let factor-of = c .before .before .before .before .before .factor-of in
+    let if1 = c .before .before .before .if1 in
+    let hertz = c .before .before .hertz in
+    simp (
+      sym (factor-of .ensures),
+      le-ltb _ _ (if1 .left),
+      sym (c .before .halved .ensures),
+      c .if2 .left,
+      hertz .ensures,
+    )
 
 pub multiplied-spec : {M : Type 1} → statement M
+unfolding multipliedOf
 multiplied-spec =
     tie.close
-    (tie.spec
-    (search needs)
-    (search needs)
-    mul-product
-    returns
-    (search needs)
-    (search needs)
-    (search needs)
-    returns-2
-    returns-3)
+    (tie.spec (search needs) (search needs) (search needs) mul-product
+    (λ c. simp (sym (c .before .before .factor-of .ensures), lt-ltb _ _ (c .if1 .taken)))
+    (search needs) (search needs) (search needs) (search needs) returns-2 returns-3)

@@ -13,44 +13,19 @@ use Rattle.rows.proofs.answer_next.Tie as tie
 room : (n k : ℕ) (e : List ℕ) → n ≤ k → k ≤ length e → (d : List ℕ) → n ≤ length (e ++ d)
 room n k e h g d = rw length-append (omega arith)
 
-returns : tie.Need-returns
-returns c = search needs
-
 slice-aggregate-read-full-2 : tie.Need-slice-aggregate-read-full-2
 slice-aggregate-read-full-2 c = sym (length-take-le _ _ (search needs))
 
-returns-2 : tie.Need-returns-2
-returns-2 c = search needs
-
 array-share-prefix-input : tie.Need-array-share-prefix-input
 array-share-prefix-input c =
-    let read-full2 = c .before .before .read-full2 in
-    let part = read-full2 in
+    let part = c .before .before .read-full2 in
     room _ (part .result) (part .last .1 .0) (c .if2 .left) (part .ensures .0) _
 
 slice-aggregate-answer : tie.Need-slice-aggregate-answer
-slice-aggregate-answer c =
-    let read-full2 = c .before .before .before .read-full2 in
-    let part = read-full2 in
-    sym (length-take-le _ _ (room _ (part .result) (part .last .1 .0) (c .before .if2 .left) (part .ensures .0) _))
-
-returns-3 : tie.Need-returns-3
-returns-3 c = search needs
+slice-aggregate-answer c = sym (length-take-le _ _ (array-share-prefix-input (c .before)))
 
 pub answer-next-spec : {M : Type 1} → statement M
 answer-next-spec =
     tie.close
-    (tie.spec
-    (search needs)
-    (search needs)
-    returns
-    (search needs)
-    (search needs)
-    (search needs)
-    slice-aggregate-read-full-2
-    (search needs)
-    returns-2
-    array-share-prefix-input
-    slice-aggregate-answer
-    (search needs)
-    returns-3)
+    (tie.spec (search needs) (search needs) (search needs) (search needs) (search needs) (search needs) slice-aggregate-read-full-2 (search needs)
+    (search needs) array-share-prefix-input slice-aggregate-answer (search needs) (search needs))

@@ -1,5 +1,5 @@
 use borrow.Author.Needs.{needs}
-use Rattle.steps.specs.Steps.{noClocks, listedOf}
+use Rattle.startup.specs.Steps.{listedOf}
 use Rattle.startup.proofs.mask.Statement.{statement}
 use Rattle.startup.proofs.mask.Tie as tie
 
@@ -17,25 +17,14 @@ returns c =
       bit2 .ensures .0,
       bit3 .ensures .0,
       c .bit4 .ensures .0,
-      (listed .ensures) noClocks,
-      (listed2 .ensures) noClocks,
-      (listed3 .ensures) noClocks,
-      (c .before .listed4 .ensures) noClocks,
+      listed .ensures,
+      listed2 .ensures,
+      listed3 .ensures,
+      c .before .listed4 .ensures,
     )
 
 pub mask-spec : {M : Type 1} → statement M
 mask-spec =
     tie.close
-    (tie.spec
-    (search needs)
-    (search needs)
-    (search needs)
-    (search needs)
-    (search needs)
-    (search needs)
-    (search needs)
-    (search needs)
-    (search needs)
-    (search needs)
-    (search needs)
-    returns)
+    (tie.spec (search needs) (search needs) (search needs) (search needs) (search needs) (search needs) (search needs) (search needs) (search needs)
+    (search needs) (search needs) returns)

@@ -5,8 +5,8 @@ use borrow.Author.Needs.{needs}
 use lib.ListN.{length}
 use lib.Seq.{length-take-le}
 use Rattle.answer.specs.Answer.{told, gives}
-use Rattle.image.specs.Image.{imageRead}
-use Rattle.profile.specs.Profile.{profileRead}
+use Rattle.image.specs.Image.{readImageSays}
+use Rattle.profile.specs.Profile.{readProfileSays}
 use Rattle.capi_startup.specs.Kept.{keptOf}
 use Rattle.capi_startup.proofs.kept.kept.Statement.{statement}
 use Rattle.capi_startup.proofs.kept.kept.Tie as tie
@@ -17,10 +17,6 @@ slice-aggregate-read-profile c =
     let h : 10 ≤ length now = omega arith in
     sym (length-take-le 10 now h)
 
-returns : tie.Need-returns
-unfolding keptOf
-returns c = simp (told profileRead (c .before .before .before .read-profile .ensures) (c .before .n .given .1))
-
 returns-2 : tie.Need-returns-2
 unfolding keptOf
 returns-2 c =
@@ -28,8 +24,8 @@ returns-2 c =
     let at-config = at-read-image .before .before .before in
     let at-read-profile = at-config .before .before in
     simp (
-      told profileRead (at-read-profile .read-profile .ensures) (at-config .config .given .1),
-      told imageRead (at-read-image .read-image .ensures) (c .before .n2 .given .1),
+      told readProfileSays (at-read-profile .read-profile .ensures) (at-config .config .given .1),
+      told readImageSays (at-read-image .read-image .ensures) (c .before .n2 .given .1),
     )
 
 returns-3 : tie.Need-returns-3
@@ -40,11 +36,12 @@ returns-3 c =
     let at-config = at-read-image .before .before .before in
     let at-read-profile = at-config .before .before in
     simp (
-      told profileRead (at-read-profile .read-profile .ensures) (at-config .config .given .1),
-      told imageRead (at-read-image .read-image .ensures) (at-fields .fields .given .1),
+      told readProfileSays (at-read-profile .read-profile .ensures) (at-config .config .given .1),
+      told readImageSays (at-read-image .read-image .ensures) (at-fields .fields .given .1),
     ) (ap gives (c .standing .ensures))
 
 pub kept-spec : {M : Type 1} → statement M
+unfolding keptOf
 kept-spec =
     tie.close
     (tie.spec
@@ -59,6 +56,6 @@ kept-spec =
     (search needs)
     (search needs)
     (search needs)
-    returns
+    (λ c. simp (told readProfileSays (c .before .before .before .read-profile .ensures) (c .before .n .given .1)))
     returns-2
     returns-3)

@@ -3,18 +3,6 @@ use Rattle.capi_startup.specs.Kept.{phaseOf}
 use Rattle.capi_startup.proofs.kept.phase.Statement.{statement}
 use Rattle.capi_startup.proofs.kept.phase.Tie as tie
 
-returns : tie.Need-returns
-unfolding phaseOf
-returns c = simp (eq-eqb _ _ (c .if1 .taken))
-
-returns-2 : tie.Need-returns-2
-unfolding phaseOf
-returns-2 c = simp (ne-eqb _ _ (c .before .if1 .left), eq-eqb _ _ (c .if2 .taken))
-
-returns-3 : tie.Need-returns-3
-unfolding phaseOf
-returns-3 c = simp (ne-eqb _ _ (c .before .before .if1 .left), ne-eqb _ _ (c .before .if2 .left), c .if3 .taken)
-
 returns-4 : tie.Need-returns-4
 unfolding phaseOf
 returns-4 c =
@@ -30,4 +18,5 @@ returns-5 c =
     simp (ne-eqb _ _ (at-if1 .if1 .left), ne-eqb _ _ (at-if2 .if2 .left), c .before .if3 .left, ne-eqb _ _ (c .if4 .left))
 
 pub phase-spec : {M : Type 1} → statement M
-phase-spec = tie.close (tie.spec returns returns-2 returns-3 returns-4 returns-5)
+unfolding phaseOf
+phase-spec = tie.close (tie.spec (λ c. simp (eq-eqb _ _ (c .if1 .taken))) (λ c. simp (ne-eqb _ _ (c .before .if1 .left), eq-eqb _ _ (c .if2 .taken))) (λ c. simp (ne-eqb _ _ (c .before .before .if1 .left), ne-eqb _ _ (c .before .if2 .left), c .if3 .taken)) returns-4 returns-5)

@@ -5,12 +5,6 @@ use Rattle.layout.proofs.Reading.{bits-lt}
 use Rattle.capi_startup.proofs.kept.standing.Statement.{statement}
 use Rattle.capi_startup.proofs.kept.standing.Tie as tie
 
-cast-used : tie.Need-cast-used
-cast-used c = omega (arith, (c .bits .ensures), bits-lt (c .before .before .before .args .place .now) 184 32)
-
-cast-t8 : tie.Need-cast-t8
-cast-t8 c = omega (arith, (c .bits2 .ensures), bits-lt (c .before .before .before .before .args .place .now) 152 32)
-
 returns : tie.Need-returns
 unfolding standingOf
 returns c =
@@ -22,16 +16,7 @@ returns c =
 pub standing-spec : {M : Type 1} → statement M
 standing-spec =
     tie.close
-    (tie.spec
-    (search needs)
-    (search needs)
-    (search needs)
-    (search needs)
-    cast-used
-    (search needs)
-    (search needs)
-    cast-t8
-    (search needs)
-    (search needs)
-    (search needs)
-    returns)
+    (tie.spec (search needs) (search needs) (search needs) (search needs)
+    (λ c. omega (arith, (c .bits .ensures), bits-lt (c .before .before .before .args .place .now) 184 32)) (search needs) (search needs)
+    (λ c. omega (arith, (c .bits2 .ensures), bits-lt (c .before .before .before .before .args .place .now) 152 32)) (search needs) (search needs)
+    (search needs) returns)

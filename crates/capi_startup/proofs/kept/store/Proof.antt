@@ -1,12 +1,9 @@
 use borrow.Author.Needs.{needs}
 use Rattle.capi_startup.specs.Kept.{placeOf}
-use Rattle.lent.specs.Giving.{short}
+use Rattle.capi_give.specs.Giving.{short}
 use Rattle.capi_startup.proofs.Storing.{no-profile, no-image, stored}
 use Rattle.capi_startup.proofs.kept.store.Statement.{statement}
 use Rattle.capi_startup.proofs.kept.store.Tie as tie
-
-returns : tie.Need-returns
-returns c = short 32 (placeOf (c .before .before .args .x)) (c .before .before .args .place .now) (c .if1 .taken)
 
 returns-2 : tie.Need-returns-2
 returns-2 c =
@@ -44,21 +41,6 @@ returns-4 c =
 pub store-spec : {M : Type 1} → statement M
 store-spec =
     tie.close
-    (tie.spec
-    returns
-    (search needs)
-    (search needs)
-    (search needs)
-    returns-2
-    (search needs)
-    (search needs)
-    (search needs)
-    (search needs)
-    returns-3
-    (search needs)
-    (search needs)
-    (search needs)
-    (search needs)
-    (search needs)
-    (search needs)
-    returns-4)
+    (tie.spec (λ c. short 32 (placeOf (c .before .before .args .x)) (c .before .before .args .place .now) (c .if1 .taken)) (search needs)
+    (search needs) (search needs) returns-2 (search needs) (search needs) (search needs) (search needs) returns-3 (search needs) (search needs)
+    (search needs) (search needs) (search needs) (search needs) returns-4)

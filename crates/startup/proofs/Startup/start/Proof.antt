@@ -2,14 +2,10 @@ use mathlib.Core.Path.{sym}
 use borrow.Author.Needs.{needs}
 use borrow.Author.Tests.{not-true, not-false}
 use Rattle.answer.specs.Answer.{told}
-use Rattle.v4x7.specs.Check.{accepted}
+use Rattle.v4x7.specs.Check.{checkedSays}
 use Rattle.startup.specs.Call.{startOf}
 use Rattle.startup.proofs.Startup.start.Statement.{statement}
 use Rattle.startup.proofs.Startup.start.Tie as tie
-
-returns : tie.Need-returns
-unfolding startOf
-returns c = simp (sym (c .before .in-width .ensures), not-true (c .before .in-width .result) (c .if1 .taken))
 
 returns-2 : tie.Need-returns-2
 unfolding startOf
@@ -20,7 +16,7 @@ returns-2 c =
     simp (
       sym (in-width .ensures),
       not-false (in-width .result) (if1 .left),
-      told accepted (clocks .ensures) (c .before .enum-told2 .given .1),
+      told checkedSays (clocks .ensures) (c .before .enum-told2 .given .1),
       c .refused .ensures,
       c .before .enum-told2 .given .1,
     )
@@ -34,15 +30,16 @@ returns-3 c =
     simp (
       sym (in-width .ensures),
       not-false (in-width .result) (if1 .left),
-      told accepted (clocks .ensures) (c .enum-told .given .1),
+      told checkedSays (clocks .ensures) (c .enum-told .given .1),
     )
 
 pub start-spec : {M : Type 1} → statement M
+unfolding startOf
 start-spec =
     tie.close
     (tie.spec
     (search needs)
-    returns
+    (λ c. simp (sym (c .before .in-width .ensures), not-true (c .before .in-width .result) (c .if1 .taken)))
     (search needs)
     (search needs)
     (search needs)

@@ -1,8 +1,9 @@
 use mathlib.Core.Path.{_≡_, sym}
 use borrow.Author.Needs.{needs}
 use Rattle.answer.specs.Answer.{gives, _>>=_, told}
-use Rattle.answer.specs.Said.{replied}
-use Rattle.tree.specs.Tree.{running}
+use Rattle.answer.specs.Said.{replySays}
+use Rattle.divider.specs.Frequency.{rateSays}
+use Rattle.tree.specs.Tree.{busesSays}
 use Rattle.v4x7_rules.specs.Rules.{busesOf}
 use Rattle.v4x7.specs.Check.{checkOf, adcOf}
 use Rattle.v4x7.proofs.Config.clocks.Statement.{statement}
@@ -15,110 +16,65 @@ returns c = simp (sym (c .before .named-codes .ensures), c .if1 .taken)
 returns-2 : tie.Need-returns-2
 unfolding checkOf
 returns-2 c =
-    let named-codes = c .before .before .before .before .before .named-codes in
-    let if1 = c .before .before .before .before .if1 in
-    let sources = c .before .before .before .sources in
-    simp (
-      sym (named-codes .ensures),
-      if1 .left,
-      c .refusal .ensures,
-      c .before .enum-told .given .1,
-      told replied (sources .ensures) (c .before .enum-told .given .1),
-    )
-
-returns-3 : tie.Need-returns-3
-unfolding checkOf
-returns-3 c =
-    let at-sysclk = c .before .before .before in
-    let at-sourced = at-sysclk .before .before in
-    let at-sources = at-sourced .before .before in
-    let at-if1 = at-sources .before in
-    let at-named-codes = at-if1 .before in
-    simp (
-      sym (at-named-codes .named-codes .ensures),
-      at-if1 .if1 .left,
-      told replied (at-sources .sources .ensures) (at-sourced .sourced .given .1),
-      c .refusal2 .ensures,
-      c .before .enum-told2 .given .1,
-      told replied (at-sysclk .sysclk .ensures) (c .before .enum-told2 .given .1),
-    )
-
--- what the definition leaves to do where the system clock is known
-from-system : (c : tie.After-system)
-    → let self = c .before .before .before .before .before .before .before .before .before .args .self in
-    let sys = c .system .given .0 .0 in
-    checkOf self ≡ (do
-      clocks ← busesOf sys (self .«ahb_pre») (self .«apb1_pre») (self .«apb2_pre»)
-      adc ← adcOf sys self
-      gives (clocks, adc))
-unfolding checkOf
-from-system c =
-    let at-sysclk = c .before .before in
-    let at-sourced = at-sysclk .before .before in
-    let at-sources = at-sourced .before .before in
-    let at-if1 = at-sources .before in
+    let at-system = c .before .before .before in
+    let at-if1 = at-system .before in
     simp (
       sym (at-if1 .before .named-codes .ensures),
       at-if1 .if1 .left,
-      told replied (at-sources .sources .ensures) (at-sourced .sourced .given .1),
-      told replied (at-sysclk .sysclk .ensures) (c .system .given .1),
+      c .refusal .ensures,
+      c .before .enum-told .given .1,
+      told rateSays (at-system .system .ensures) (c .before .enum-told .given .1),
+    )
+
+-- what the definition leaves to do where the system clock is known
+from-system : (c : tie.After-rate)
+    → let self = c .before .before .before .before .before .args .self in
+    let sys = c .rate .given .0 .0 in
+    checkOf self ≡ (do
+      clocks ← busesOf sys (self .«ahb_pre») (self .«apb1_pre») (self .«apb2_pre»)
+      adc ← adcOf (sys .hz) self
+      gives (clocks, adc))
+unfolding checkOf
+from-system c =
+    let at-system = c .before .before in
+    let at-if1 = at-system .before in
+    simp (
+      sym (at-if1 .before .named-codes .ensures),
+      at-if1 .if1 .left,
+      told rateSays (at-system .system .ensures) (c .rate .given .1),
+    )
+
+returns-3 : tie.Need-returns-3
+returns-3 c =
+    let at-adc = c .before .before .before in
+    let at-clocks = at-adc .before .before in
+    let at-bus-clocks = at-clocks .before .before in
+    simp (
+      from-system (at-bus-clocks .before .before),
+      told busesSays (at-bus-clocks .bus-clocks .ensures) (at-clocks .clocks .given .1),
+      c .refusal2 .ensures,
+      c .before .enum-told2 .given .1,
+      told replySays (at-adc .adc .ensures) (c .before .enum-told2 .given .1),
     )
 
 returns-4 : tie.Need-returns-4
 returns-4 c =
-    let at-adc = c .before .before .before in
-    let at-clocks = at-adc .before .before in
-    let at-bus-clocks = at-clocks .before .before in
+    let at-bus-clocks = c .before .before .before in
     simp (
       from-system (at-bus-clocks .before .before),
-      told running (at-bus-clocks .bus-clocks .ensures) (at-clocks .clocks .given .1),
-      c .refusal3 .ensures,
-      c .before .enum-told3 .given .1,
-      told replied (at-adc .adc .ensures) (c .before .enum-told3 .given .1),
+      told busesSays (at-bus-clocks .bus-clocks .ensures) (c .before .n .given .1),
     )
 
 returns-5 : tie.Need-returns-5
 returns-5 c =
-    let at-bus-clocks = c .before .before .before in
-    simp (
-      from-system (at-bus-clocks .before .before),
-      told running (at-bus-clocks .bus-clocks .ensures) (c .before .n .given .1),
-    )
-
-returns-6 : tie.Need-returns-6
-returns-6 c =
     let at-adc = c .before .before .before in
     let at-clocks = at-adc .before .before in
     let at-bus-clocks = at-clocks .before .before in
     simp (
       from-system (at-bus-clocks .before .before),
-      told running (at-bus-clocks .bus-clocks .ensures) (at-clocks .clocks .given .1),
-      told replied (at-adc .adc .ensures) (c .before .sampled .given .1),
+      told busesSays (at-bus-clocks .bus-clocks .ensures) (at-clocks .clocks .given .1),
+      told replySays (at-adc .adc .ensures) (c .before .sampled .given .1),
     )
 
 pub clocks-spec : {M : Type 1} → statement M
-clocks-spec =
-    tie.close
-    (tie.spec
-    (search needs)
-    returns
-    (search needs)
-    (search needs)
-    (search needs)
-    (search needs)
-    returns-2
-    (search needs)
-    (search needs)
-    (search needs)
-    (search needs)
-    returns-3
-    (search needs)
-    (search needs)
-    (search needs)
-    (search needs)
-    (search needs)
-    (search needs)
-    (search needs)
-    returns-4
-    returns-5
-    returns-6)
+clocks-spec = tie.close (tie.spec (search needs) returns (search needs) (search needs) (search needs) (search needs) returns-2 (search needs) (search needs) (search needs) (search needs) (search needs) (search needs) (search needs) returns-3 returns-4 returns-5)

@@ -1,0 +1,39 @@
+-- A call's number and bytes, by the way that it took. Assumes nothing.
+use Prim.Native.Nat.{ℕ, _≤_, _<_}
+use mathlib.Core.Path.{_≡_, sym, ap, _∙_}
+use mathlib.Core.List.{List, _++_}
+use borrow.Author.Tests.{lt-ltb, le-ltb}
+use lib.ListN.{length, drop}
+use Rattle.answer.specs.Answer.{Answer, gives, refuses}
+use Rattle.layout.specs.Lent.{written, after}
+use Rattle.capi_give.specs.Given.{numberIn, Given}
+
+module _ (n : ℕ) (m : Answer (List ℕ)) (l : List ℕ) where
+  -- 32: nothing was touched
+  pub short : length l < n → Given n m l l 32
+  short h = record { number = rw (lt-ltb (length l) n h); lent = rw (lt-ltb (length l) n h) }
+
+  -- refused by the record: nothing was touched
+  pub refused : (k : ℕ) → n ≤ length l → m ≡ refuses k → Given n m l l k
+  refused k h e = record { number = rw (le-ltb (length l) n h, e); lent = rw (le-ltb (length l) n h, e) }
+
+  -- the record's bytes, and those beyond it as they were
+  pub given-to : (b : List ℕ) → n ≤ length l → m ≡ gives b → Given n m l (b ++ drop n l) 0
+  given-to b h e = record { number = rw (le-ltb (length l) n h, e); lent = rw (le-ltb (length l) n h, e) }
+
+  pub given-as : (b l′ : List ℕ) → n ≤ length l → m ≡ gives b → l′ ≡ b ++ drop n l → Given n m l l′ 0
+  given-as b l′ h e q = rw q (given-to b h e)
+
+  -- a call that gave these bytes gave the record
+  pub passed-on : (xs l′ : List ℕ) (r : ℕ) → length xs ≡ n → m ≡ gives xs → Given (length xs) (gives xs) l l′ r → Given n m l l′ r
+  passed-on xs l′ r e q g = record {
+    number = g .number ∙ ap (λ (k : ℕ). numberIn (written k (gives xs) l)) e ∙ ap (λ (x : Answer (List ℕ)). numberIn (written n x l)) (sym q);
+    lent = g .lent ∙ ap (λ (k : ℕ). after l (written k (gives xs) l)) e ∙ ap (λ (x : Answer (List ℕ)). after l (written n x l)) (sym q);
+  }
+
+  -- a call that gave another record gave this one, where they are the same
+  pub carried : (m′ : Answer (List ℕ)) (l′ : List ℕ) (r : ℕ) → Given n m′ l l′ r → m ≡ m′ → Given n m l l′ r
+  carried m′ l′ r g q = record {
+    number = g .number ∙ ap (λ (x : Answer (List ℕ)). numberIn (written n x l)) (sym q);
+    lent = g .lent ∙ ap (λ (x : Answer (List ℕ)). after l (written n x l)) (sym q);
+  }

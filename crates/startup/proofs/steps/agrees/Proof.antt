@@ -1,0 +1,31 @@
+use mathlib.Core.Path.{sym}
+use borrow.Author.Needs.{needs}
+use Rattle.answer.specs.Answer.{told}
+use Rattle.tree.specs.Tree.{busesSays}
+use Rattle.startup.specs.Steps.{agreesOf}
+use Rattle.startup.proofs.steps.agrees.Statement.{statement}
+use Rattle.startup.proofs.steps.agrees.Tie as tie
+
+returns : tie.Need-returns
+unfolding agreesOf
+returns c =
+    let hse-frequency = c .before .before .before .hse-frequency in
+    let decode = c .before .before .decode in
+    simp (sym (hse-frequency .ensures), told busesSays (decode .ensures) (c .enum-told .given .1))
+
+returns-2 : tie.Need-returns-2
+unfolding agreesOf
+returns-2 c =
+    let hse-frequency = c .before .before .before .before .before .hse-frequency in
+    let decode = c .before .before .before .before .decode in
+    let clocks = c .before .before .clocks in
+    simp (
+      sym (hse-frequency .ensures),
+      told busesSays (decode .ensures) (clocks .given .1),
+      c .same-clocks .ensures,
+    )
+
+pub agrees-spec : {M : Type 1} → statement M
+agrees-spec =
+    tie.close
+    (tie.spec (search needs) (search needs) (search needs) (search needs) (search needs) returns returns-2)

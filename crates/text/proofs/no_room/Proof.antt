@@ -1,0 +1,26 @@
+-- `text::no_room` meets its contract. Assumes nothing.
+use mathlib.Core.Bool.{Bool, true, false}
+use mathlib.Core.Path.{_≡_, refl, sym, _∙_}
+use Prim.Native.Nat.{ℕ, _+_, _-_, _<_, _≤_}
+use native.Mathlib.Omega.{arith}
+use borrow.Author.Tests.{ltb-true, ltb-false, lt-ltb, le-ltb}
+use lib.Dec.{ltb}
+use Rattle.text.proofs.no_room.Statement.{statement}
+use Rattle.text.proofs.no_room.Tie as tie
+
+module _ (lent at n : ℕ) where
+  beyond : lent < at → ltb lent at ≡ ltb lent (at + n)
+  beyond h = lt-ltb lent at h ∙ sym (lt-ltb lent (at + n) (omega arith))
+
+  within : at ≤ lent → (t : Bool) → ltb (lent - at) n ≡ t → t ≡ ltb lent (at + n)
+  within h true e = let k = ltb-true (lent - at) n e in sym (lt-ltb lent (at + n) (omega arith))
+  within h false e = let k = ltb-false (lent - at) n e in sym (le-ltb lent (at + n) (omega arith))
+
+returns : tie.Need-returns
+returns c = let args = c .before .args in beyond (args .lent) (args .at) (args .n) (c .if1 .taken)
+
+returns-2 : tie.Need-returns-2
+returns-2 c = let args = c .before .args in within (args .lent) (args .at) (args .n) (c .if1 .left) _ refl
+
+pub no-room-spec : {M : Type 1} → statement M
+no-room-spec = tie.close (tie.spec returns returns-2)

@@ -1,0 +1,4 @@
+pub mod Decimal
+pub mod DecimalLaws
+pub mod Text
+pub mod Pieces

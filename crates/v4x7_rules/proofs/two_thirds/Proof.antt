@@ -1,0 +1,11 @@
+use borrow.Author.Needs.{needs}
+use Rattle.v4x7_rules.specs.Rules.{twoThirds}
+use Rattle.v4x7_rules.proofs.two_thirds.Statement.{statement}
+use Rattle.v4x7_rules.proofs.two_thirds.Tie as tie
+
+returns : tie.Need-returns
+unfolding twoThirds
+returns c = rw (c .by-one-more .ensures, c .before .hertz .ensures)
+
+pub two-thirds-spec : {M : Type 1} → statement M
+two-thirds-spec = tie.close (tie.spec (search needs) (search needs) (search needs) returns)
