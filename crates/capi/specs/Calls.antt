@@ -8,6 +8,7 @@ use Rattle.answer.specs.Answer.{Answer, gives, _>>=_}
 use Rattle.tree.specs.declared.Clocks.{Clocks}
 use Rattle.tree.specs.declared.HseFrequency.{HseFrequency}
 use Rattle.tree.specs.declared.HseFrequency.the-variants as hse
+use Rattle.v4x7.specs.declared.ClockRecord.{ClockRecord}
 use Rattle.v4x7.specs.Check.{checkOf}
 use Rattle.profile.specs.Profile.{readProfile}
 use Rattle.image.specs.Image.{readImage}
@@ -15,10 +16,16 @@ use Rattle.decoder.specs.Decode.{decodeOf}
 use Rattle.decoder.specs.Queries.{Ready, hertz, notReady, adcQueryOf, rngQueryOf}
 
 -- a profile's check: 29, 30, then the check's refusals
-unfoldable pub checkRead : List ℕ → Answer (Clocks × ℕ)
+unfoldable pub checkRead : List ℕ → Answer ClockRecord
 checkRead p = do
   c ← readProfile p
   checkOf c
+
+-- what a check gives, seven words: the six clocks and the ADC's frequency
+abbrev pub sevenOf : Answer ClockRecord → Answer (Clocks × ℕ)
+sevenOf m = do
+  x ← m
+  gives (x .clocks, x .adc)
 
 -- HSE's frequency as the decoder takes it: 0 where there is no HSE
 abbrev pub hseOf : ℕ → HseFrequency

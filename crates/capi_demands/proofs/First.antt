@@ -103,7 +103,9 @@ pub demand1-in-c : Demand1InC
 unfolding capi.checkRead capi.decodeRead capi.adcRead capi.rngRead profileFields profileFrom imageFields imageFrom waitsRead callsRead
     startBytes stepBytes
 demand1-in-c = record {
-  check = λ p. through (order-map _ (capi.checkRead p) (order-behind (profile.readProfile p) (profiles p) (λ c. record { goes = check-in-order c })));
+  check = λ p.
+      through (order-map _ (capi.sevenOf (capi.checkRead p))
+      (order-map _ (capi.checkRead p) (order-behind (profile.readProfile p) (profiles p) (λ c. record { goes = check-in-order c }))));
   decode = λ i hz.
       through (order-map _ (capi.decodeRead i hz) (order-behind (image.readImage i) (images i) (λ f. record { goes = decode-in-order f (capi.hseOf hz) })));
   adc = λ i sys.

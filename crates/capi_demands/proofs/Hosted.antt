@@ -11,8 +11,8 @@ use lib.Seq.{drop-at, getD-append-add}
 use Rattle.answer.specs.Answer.{Answer, gives, bound, passed}
 use Rattle.layout.specs.Layout.{packed}
 use Rattle.layout.specs.Lent.{written, after}
-use Rattle.tree.specs.declared.Clocks.{Clocks}
 use Rattle.v4x7.specs.declared.Config.{Config}
+use Rattle.v4x7.specs.declared.ClockRecord.{ClockRecord}
 use Rattle.v4x7.specs.Check.{checkOf}
 use Rattle.profile.specs.Profile.{readProfile, profileBytes}
 use Rattle.profile.proofs.RoundTrip as profile
@@ -107,9 +107,9 @@ tells y rest l s =
     let byte = tail-byte y rest l s in
     record { phase = byte 9 (lit< tt); went = byte 10 (lit< tt); number = byte 11 (lit< tt); step = byte 12 (lit< tt) }
 
-module _ (c : Config) {x : Clocks × ℕ} (q : checkOf c ≡ gives x) (p : List ℕ) (packs : profileBytes c ≡ gives p) where
+module _ (c : Config) {x : ClockRecord} (q : checkOf c ≡ gives x) (p : List ℕ) (packs : profileBytes c ≡ gives p) where
   abbrev P : List Entry
-  P = steps c (x .0)
+  P = steps c (x .clocks)
 
   abbrev Held : Startup → Type 0
   Held s = Sound c q s × Inside P 1000000 s × Storable s
@@ -174,7 +174,7 @@ module _ (c : Config) {x : Clocks × ℕ} (q : checkOf c ≡ gives x) (p : List 
 
   begun-held : (f : Fields) → inWidth f ≡ true → Held (begun c f)
   begun-held f w =
-      ((refl, wide f w), first-at P 1000000 million refl (bounds c (x .0) .1), starts-storable c f (begun c f) (starts c q f w))
+      ((refl, wide f w), first-at P 1000000 million refl (bounds c (x .clocks) .1), starts-storable c f (begun c f) (starts c q f w))
 
   module _ (i : List ℕ) (f : Fields) (w : inWidth f ≡ true) (e : readProfile p ≡ gives c) (o : readImage i ≡ gives f) (l : List ℕ)
       (h : 32 ≤ length l) where
@@ -186,7 +186,7 @@ module _ (c : Config) {x : Clocks × ℕ} (q : checkOf c ≡ gives x) (p : List 
     unfolding callsRead callBoundOf waitsOwedOf
     call-bound = rw (e, accepted-tells c q .names)
 
-    pub served : (ws : ℕ → ℕ) (r : ℕ) (rs : ℕ → ℕ) (m : ℕ → List ℕ) → Hosts p i l ws r rs m → Served p c (x .0) f l ws r rs m
+    pub served : (ws : ℕ → ℕ) (r : ℕ) (rs : ℕ → ℕ) (m : ℕ → List ℕ) → Hosts p i l ws r rs m → Served p c (x .clocks) f l ws r rs m
     served ws r rs m g =
         let y = begunWith (begun c f) in
         let rest = drop 32 l in

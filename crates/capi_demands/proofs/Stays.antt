@@ -11,8 +11,8 @@ use lib.ListN.{length, take, drop, length-drop}
 use Rattle.answer.specs.Answer.{Answer, gives, refuses, refuse, _>>_, bound, followed, passed}
 use Rattle.layout.specs.Bits.{bitsAt}
 use Rattle.layout.proofs.Reading.{bits-lt}
-use Rattle.tree.specs.declared.Clocks.{Clocks}
 use Rattle.v4x7.specs.declared.Config.{Config}
+use Rattle.v4x7.specs.declared.ClockRecord.{ClockRecord}
 use Rattle.v4x7.specs.Check.{namedOf, checkOf}
 use Rattle.profile.specs.Profile.{readProfile}
 use Rattle.image.specs.declared.Fields.{Fields}
@@ -73,13 +73,13 @@ module _ (s : Startup) (st : Storable s) where
   came next f n (differs h) = record { step = st .step; unmet = st .unmet; used = omega arith; phase = (inr refl, refl, refl) }
   came next f n (ends {same} h) = compared-so next f same
 
-  by-phase : (b : Bool) (a : Answer (Clocks × ℕ)) (r : Reading) (h : Phase) → Storable (cond b (handedBack s) (stepBy a s r h) .startup)
+  by-phase : (b : Bool) (a : Answer ClockRecord) (r : Reading) (h : Phase) → Storable (cond b (handedBack s) (stepBy a s r h) .startup)
   by-phase true a r h = st
   by-phase false (refuses n) r (Over last) = st
   by-phase false (gives x) r (Over last) = st
   by-phase false (refuses n) r Going = st
   by-phase false (gives x) r Going =
-      let work = workOf (s .config) (x .0) (s .step) (s .fields) (seenOf r) in
+      let work = workOf (s .config) (x .clocks) (s .step) (s .fields) (seenOf r) in
       came (nextOf (s .config) (s .step)) (seeing s r) (next-byte (s .config) (s .step) (st .step))
       (view 1000000 s r (listedOf (s .config) (s .step)) work)
 
@@ -124,11 +124,11 @@ held-or-odd l s e =
     (phase-held (bitsAt l 216 8) (bitsAt l 144 8) (bitsAt l 184 32)))
 
 module _ (s : Startup) (r : Reading) where
-  last-28 : (a : Answer (Clocks × ℕ)) → numberOf (stepBy a s r (Over (Refused 28)) .report) ≡ 28
+  last-28 : (a : Answer ClockRecord) → numberOf (stepBy a s r (Over (Refused 28)) .report) ≡ 28
   last-28 (gives x) = refl
   last-28 (refuses n) = refl
 
-  number-28 : (b : Bool) (a : Answer (Clocks × ℕ)) (h : Phase) → Odd h → numberOf (cond b (handedBack s) (stepBy a s r h) .report) ≡ 28
+  number-28 : (b : Bool) (a : Answer ClockRecord) (h : Phase) → Odd h → numberOf (cond b (handedBack s) (stepBy a s r h) .report) ≡ 28
   number-28 true a h o = refl
   number-28 false a h o = ap (λ (k : Phase). numberOf (stepBy a s r k .report)) o ∙ last-28 a
 

@@ -8,6 +8,7 @@ use Rattle.answer.specs.Answer.{gives}
 use Rattle.layout.specs.Layout.{Bytes}
 use Rattle.tree.specs.declared.Clocks.{Clocks}
 use Rattle.v4x7.specs.declared.Config.{Config}
+use Rattle.v4x7.specs.declared.ClockRecord.{ClockRecord}
 use Rattle.v4x7.specs.Check.{checkOf}
 use Rattle.profile.specs.Profile.{readProfile}
 use Rattle.image.specs.declared.Fields.{Fields}
@@ -64,8 +65,8 @@ pub record Served (p : List ℕ) (c : Config) (promised : Clocks) (f : Fields) (
 abbrev pub Demand3InC : Type 0
 Demand3InC =
     (p i l : List ℕ) → Bytes p → Bytes i → 32 ≤ length l →
-    (c : Config) → readProfile p ≡ gives c → (x : Clocks × ℕ) → checkOf c ≡ gives x → (f : Fields) → readImage i ≡ gives f →
-    (ws : ℕ → ℕ) (r : ℕ) (rs : ℕ → ℕ) (m : ℕ → List ℕ) → Hosts p i l ws r rs m → Served p c (x .0) f l ws r rs m
+    (c : Config) → readProfile p ≡ gives c → (x : ClockRecord) → checkOf c ≡ gives x → (f : Fields) → readImage i ≡ gives f →
+    (ws : ℕ → ℕ) (r : ℕ) (rs : ℕ → ℕ) (m : ℕ → List ℕ) → Hosts p i l ws r rs m → Served p c (x .clocks) f l ws r rs m
 
 -- Every call answers whatever bytes it finds: such hosts there are.
 abbrev pub HostsThere : Type 0

@@ -6,21 +6,21 @@ use Prim.Native.Nat.{ℕ, _+_}
 use native.Mathlib.Omega.{arith}
 use borrow.Author.Tests.{eq-eqb, eqb-true, eqb-false, leb-true, not-false}
 use lib.Dec.{eqb, leb}
-use Rattle.answer.specs.Answer.{Answer, gives, refuses, refuse, _>>=_, _>>_, bound, followed, passed, refuses-gives, same-given}
+use Rattle.answer.specs.Answer.{gives, refuses, refuse, _>>=_, _>>_, bound, followed, passed, refuses-gives, same-given}
 use Rattle.answer.specs.Tools.{false-true, cases, and-other, neither}
 use Rattle.divider.specs.declared.Frequency.{Frequency}
 use Rattle.divider.specs.Frequency.{whole, over}
-use Rattle.tree.specs.declared.Clocks.{Clocks}
 use Rattle.tree.specs.declared.HseFrequency.{HseFrequency}
 use Rattle.tree.specs.declared.Output.{Output}
 use Rattle.tree.specs.declared.Output.the-variants as output
 use Rattle.image.specs.declared.Fields.{Fields}
-use Rattle.v4x7_rules.specs.Rules.{mainPllOf, ethPllOf, referenceCodeOf, sysPllOf, busesOf}
+use Rattle.v4x7_rules.specs.Rules.{mainPllOf, ethPllOf, sysPllOf, busesOf}
 use Rattle.v4x7.specs.declared.Pll.{Pll}
 use Rattle.v4x7.specs.declared.Pll.the-variants as pll
 use Rattle.v4x7.specs.declared.HsPll.{HsPll}
 use Rattle.v4x7.specs.declared.HsPll.the-variants as hspll
 use Rattle.v4x7.specs.declared.Config.{Config}
+use Rattle.v4x7.specs.declared.ClockRecord.{ClockRecord}
 use Rattle.v4x7.specs.Check.{checkOf, namedOf, namedHsPll, hasUsbHs, hseFrequencyOf, hsePresentOf, rngOf, mainOf, ethOf, referenceOf, usbHsOf, sourcesOf}
 use Rattle.v4x7.specs.Check as check
 use Rattle.v4x7.specs.Laws.{Named, named-given}
@@ -67,7 +67,7 @@ usbhs : (c : Config) (f : Fields) (p : HsPll) → ethOf (hseFrequencyOf (c .hse)
 unfolding usbHsPllOf usbHsOf
 usbhs c f hspll.Absent eth q named laid there = false-true there
 usbhs c f (hspll.From s) eth q named laid there =
-    let r = bound (referenceOf (hseFrequencyOf (c .hse)) (c .ethpll) s) (λ x. _>>_ (referenceCodeOf (x .hz)) (gives tt)) q in
+    let r = bound (referenceOf (hseFrequencyOf (c .hse)) (c .ethpll) s) _ q in
     let seen = reference (hseFrequencyOf (c .hse)) (c .ethpll) s eth named (r .gave) in
     let code = laid .1 (r .value) (r .gave) in
     simp (laid .0, seen, code, eq-eqb (f .cfgr2 .usbhspllclk) (f .cfgr2 .usbhspllclk) refl)
@@ -81,7 +81,7 @@ main-pll h source pll.Absent f {main} {x} q laid r =
     let none : sysPllOf 6 output.Absent ≡ gives x = subst (λ (o : Output). sysPllOf 6 o ≡ gives x) (sym (same-given q)) r in
     refuses-gives none
 main-pll h source (pll.Mul m) f {main} {x} q laid r =
-    let b = bound (mainPllOf h (eqb source 1) m) (λ y. gives (output.At y)) q in
+    let b = bound (mainPllOf h (eqb source 1) m) _ q in
     rw (laid .0, laid .1, b .gave) (subst (λ (o : Output). sysPllOf 6 o ≡ gives x) (sym (same-given (b .after))) r)
 
 -- what the check's sources tell, of the parts that may feed SYSCLK
@@ -92,18 +92,14 @@ pub record Sourced (c : Config) (main : Output) : Type 0 where
 
 pub sourced : (c : Config) {main : Output} → sourcesOf c ≡ gives main → Sourced c main
 unfolding sourcesOf
-sourced c {main} q =
+sourced c q =
     let h = hseFrequencyOf (c .hse) in
-    let last : Output → Answer Output = λ m. gives m in
-    let usb : Output → Answer Output = λ m. _>>_ (usbHsOf h (c .ethpll) (c .hspll)) (last m) in
-    let eth : Output → Answer Output = λ m. _>>_ (ethOf h (c .ethpll)) (usb m) in
-    let pll : Answer Output = _>>=_ (mainOf h (c .«pll_src») (c .pll)) eth in
-    let a = followed (rngOf (c .«rng_src») (c .hspll) (c .ethpll)) (_>>_ (hsePresentOf h) pll) q in
-    let b = followed (hsePresentOf h) pll (a .after) in
-    let d = bound (mainOf h (c .«pll_src») (c .pll)) eth (b .after) in
-    let e = followed (ethOf h (c .ethpll)) (usb (d .value)) (d .after) in
-    let g = followed (usbHsOf h (c .ethpll) (c .hspll)) (last (d .value)) (e .after) in
-    record { main-gave = d .gave ∙ g .after; eth-gave = e .gave; usbhs-gave = g .gave }
+    let rng = followed (rngOf (c .«rng_src») (c .hspll) (c .ethpll)) _ q in
+    let hse = followed (hsePresentOf h) _ (rng .after) in
+    let main = bound (mainOf h (c .«pll_src») (c .pll)) _ (hse .after) in
+    let eth = followed (ethOf h (c .ethpll)) _ (main .after) in
+    let usbhs = followed (usbHsOf h (c .ethpll) (c .hspll)) _ (eth .after) in
+    record { main-gave = main .gave ∙ usbhs .after; eth-gave = eth .gave; usbhs-gave = usbhs .gave }
 
 -- what SYSPLL takes in: a PLL that the check found configured, and the decoder finds running
 input : (c : Config) (f : Fields) {main : Output} {x : Frequency} → Laid c f → Sourced c main → namedHsPll (c .hspll) ≡ true →
@@ -114,9 +110,8 @@ input c f {main} {x} laid s named q =
     let source : ℕ = c .«syspll_src» in
     let from-usbhs : Bool = eqb source 0 || eqb source 2 in
     let from-eth : Bool = eqb source 1 || eqb source 3 in
-    let eth : Answer Frequency = _>>_ (refuse 11 (from-eth && not (c .ethpll))) (sysPllOf source main) in
-    let ten = passed 10 (from-usbhs && not (hasUsbHs (c .hspll))) eth q in
-    let eleven = passed 11 (from-eth && not (c .ethpll)) (sysPllOf source main) (ten .after) in
+    let ten = passed 10 (from-usbhs && not (hasUsbHs (c .hspll))) _ q in
+    let eleven = passed 11 (from-eth && not (c .ethpll)) _ (ten .after) in
     cases (eqb source 6)
     (λ six.
     let is : source ≡ 6 = eqb-true source 6 six in
@@ -152,40 +147,32 @@ system c f {main} {sys} laid s named q =
     (λ l. absurd (omega (arith, named .sys, eqb-false (c .sys) 0 e, eqb-false (c .sys) 1 k, eqb-false (c .sys) 2 l)))))
 
 -- what an accepted check tells, step by step
-pub record Checked (c : Config) (x : Clocks × ℕ) : Type 0 where
+pub record Checked (c : Config) (x : ClockRecord) : Type 0 where
   pub named : namedOf c ≡ true
   pub main : Output
   pub sources : sourcesOf c ≡ gives main
   pub sys : Frequency
   pub sysclk : check.sysclkOf main c ≡ gives sys
-  pub buses : busesOf sys (c .«ahb_pre») (c .«apb1_pre») (c .«apb2_pre») ≡ gives (x .0)
-  pub adc : check.adcOf (sys .hz) c ≡ gives (x .1)
+  pub buses : busesOf sys (c .«ahb_pre») (c .«apb1_pre») (c .«apb2_pre») ≡ gives (x .clocks)
 
-pub checked : (c : Config) {x : Clocks × ℕ} → checkOf c ≡ gives x → Checked c x
+pub checked : (c : Config) {x : ClockRecord} → checkOf c ≡ gives x → Checked c x
 unfolding checkOf check.systemOf
 checked c {x} q =
-    let ahb = c .«ahb_pre» in
-    let apb1 = c .«apb1_pre» in
-    let apb2 = c .«apb2_pre» in
-    let sampled : Frequency → Clocks → Answer (Clocks × ℕ) = λ sys k. _>>=_ (check.adcOf (sys .hz) c) (λ hz. gives (k, hz)) in
-    let run : Frequency → Answer (Clocks × ℕ) = λ sys. _>>=_ (busesOf sys ahb apb1 apb2) (sampled sys) in
-    let names = passed 28 (not (namedOf c)) (_>>=_ (check.systemOf c) run) q in
-    let system = bound (check.systemOf c) run (names .after) in
-    let sources = bound (sourcesOf c) (λ m. check.sysclkOf m c) (system .gave) in
-    let buses = bound (busesOf (system .value) ahb apb1 apb2) (sampled (system .value)) (system .after) in
-    let adc = bound (check.adcOf (system .value .hz) c) (λ hz. gives (buses .value, hz)) (buses .after) in
-    let pair : (buses .value, adc .value) ≡ x = same-given (adc .after) in
+    let names = passed 28 (not (namedOf c)) _ q in
+    let system = bound (check.systemOf c) _ (names .after) in
+    let sources = bound (sourcesOf c) _ (system .gave) in
+    let buses = bound (busesOf (system .value) (c .«ahb_pre») (c .«apb1_pre») (c .«apb2_pre»)) _ (system .after) in
+    let adc = bound (check.adcOf (system .value .hz) c) _ (buses .after) in
     record {
       named = not-false (namedOf c) (names .failed);
       main = sources .value;
       sources = sources .gave;
       sys = system .value;
       sysclk = sources .after;
-      buses = buses .gave ∙ ap (λ (y : Clocks × ℕ). gives (y .0)) pair;
-      adc = adc .gave ∙ ap (λ (y : Clocks × ℕ). gives (y .1)) pair;
+      buses = buses .gave ∙ ap (λ (y : ClockRecord). gives (y .clocks)) (same-given (adc .after));
     }
 
-pub laid-decodes : (c : Config) (f : Fields) {x : Clocks × ℕ} → checkOf c ≡ gives x → Laid c f → decodeOf f (hseFrequencyOf (c .hse)) ≡ gives (x .0)
+pub laid-decodes : (c : Config) (f : Fields) {x : ClockRecord} → checkOf c ≡ gives x → Laid c f → decodeOf f (hseFrequencyOf (c .hse)) ≡ gives (x .clocks)
 unfolding decodeOf
 laid-decodes c f q laid =
     let k = checked c q in

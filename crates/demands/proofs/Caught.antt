@@ -55,7 +55,7 @@ hpre-clear n h =
 pub caught : Caught
 caught = (
   busiest,
-  (promised, 7500000),
+  promised,
   accepted,
   clear,
   clear-width,

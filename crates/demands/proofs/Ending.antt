@@ -21,6 +21,7 @@ use Rattle.v4x7.specs.declared.HsPll.the-variants as hspll
 use Rattle.v4x7.specs.declared.AdcClockSource.{AdcClockSource}
 use Rattle.v4x7.specs.declared.AdcClockSource.the-variants as adc
 use Rattle.v4x7.specs.declared.Config.{Config}
+use Rattle.v4x7.specs.declared.ClockRecord.{ClockRecord}
 use Rattle.v4x7.specs.Check.{checkOf, hasHse, hasUsbHs, hasMain, hseFrequencyOf, referenceOf, usbHsOf}
 use Rattle.image.specs.declared.Fields.{Fields}
 use Rattle.decoder.specs.Decode.{decodeOf}
@@ -130,22 +131,22 @@ adc-keeps : {A : Type 0} (F : Fields → A) → ((f : Fields) (n : ℕ) → F (a
 adc-keeps F h adc.Hclk f = refl
 adc-keeps F h (adc.UsbHsPll d) f = h f d
 
-module _ (c : Config) {x : Clocks × ℕ} (q : checkOf c ≡ gives x) (earlier : Fields) (width : Wide earlier) where
+module _ (c : Config) {x : ClockRecord} (q : checkOf c ≡ gives x) (earlier : Fields) (width : Wide earlier) where
   abbrev ok : Accepted c
   ok = accepted-tells c q
 
   abbrev front : List Entry
-  front = take 26 (steps c (x .0))
+  front = take 26 (steps c (x .clocks))
 
   abbrev tamed : Tame Wide front
-  tamed = tame-take Wide 26 (steps c (x .0)) (tame c ok (x .0))
+  tamed = tame-take Wide 26 (steps c (x .clocks)) (tame c ok (x .clocks))
 
   abbrev last : Fields
   last = written front earlier
 
   -- before step 24
   abbrev mid : Fields
-  mid = written (take 23 (steps c (x .0))) earlier
+  mid = written (take 23 (steps c (x .clocks))) earlier
 
   keeps : {A : Type 0} (F : Fields → A) → ((f : Fields) → F (switch (c .sys) f) ≡ F f) → ((f : Fields) → F (gate true f) ≡ F f) →
       ((f : Fields) (n : ℕ) → F (adcDivisor (adc.UsbHsPll n) f) ≡ F f) → F last ≡ F mid
@@ -155,15 +156,15 @@ module _ (c : Config) {x : Clocks × ℕ} (q : checkOf c ≡ gives x) (earlier :
       s (cond on (gate true with-adc) with-adc) ∙ cond-keeps F (gate true) g on with-adc ∙
       cond-keeps F (adcDivisor (c .«adc_src»)) (adc-keeps F d (c .«adc_src»)) (fromUsbHs (c .«adc_src»)) mid
 
-  pub enables : enableBits (written (steps c (x .0)) earlier .ctlr) ≡ maskOf c
+  pub enables : enableBits (written (steps c (x .clocks)) earlier .ctlr) ≡ maskOf c
   enables =
       ap enableBits (keeps (λ f. f .ctlr) (λ f. refl) (λ f. refl) (λ f n. refl)) ∙
-      turned-on (c .hse) (c .ethpll) (c .hspll) (c .«pll_src») (c .pll) (written (take 5 (steps c (x .0))) earlier)
+      turned-on (c .hse) (c .ethpll) (c .hspll) (c .«pll_src») (c .pll) (written (take 5 (steps c (x .clocks))) earlier)
 
   laid : (r : Reading) → eqb (seenOf r .sws) (c .sys) ≡ true → Laid c (withSeen last (seenOf r))
   laid r e =
-      let before = written (take 15 (steps c (x .0))) earlier in
-      let twelve = written (take 12 (steps c (x .0))) earlier in
+      let before = written (take 15 (steps c (x .clocks))) earlier in
+      let twelve = written (take 12 (steps c (x .clocks))) earlier in
       let two = main-keeps (c .«pll_src») (c .pll) before in
       record {
         width = in-width (withSeen last (seenOf r)) (see last r (written-kept Wide front tamed earlier width));
@@ -196,16 +197,16 @@ module _ (c : Config) {x : Clocks × ℕ} (q : checkOf c ≡ gives x) (earlier :
 
   -- What holds at step 28.
   abbrev pub Ends : ℕ → Fields → Type 0
-  Ends k f = (k ≡ 28) × (f ≡ withSeen (written (steps c (x .0)) earlier) (f .seen)) × (decodeOf f (hseFrequencyOf (c .hse)) ≡ gives (x .0))
+  Ends k f = (k ≡ 28) × (f ≡ withSeen (written (steps c (x .clocks)) earlier) (f .seen)) × (decodeOf f (hseFrequencyOf (c .hse)) ≡ gives (x .clocks))
 
-  decodes : (r : Reading) → eqb (seenOf r .sws) (c .sys) ≡ true → decodeOf (withSeen last (seenOf r)) (hseFrequencyOf (c .hse)) ≡ gives (x .0)
+  decodes : (r : Reading) → eqb (seenOf r .sws) (c .sys) ≡ true → decodeOf (withSeen last (seenOf r)) (hseFrequencyOf (c .hse)) ≡ gives (x .clocks)
   decodes r e = laid-decodes c (withSeen last (seenOf r)) q (laid r e)
 
-  agrees : (r : Reading) → eqb (seenOf r .sws) (c .sys) ≡ true → agreesOf c (x .0) (withSeen last (seenOf r)) ≡ true
+  agrees : (r : Reading) → eqb (seenOf r .sws) (c .sys) ≡ true → agreesOf c (x .clocks) (withSeen last (seenOf r)) ≡ true
   unfolding agreesOf
-  agrees r e = ap (λ (a : Answer Clocks). isClocks a (x .0)) (decodes r e) ∙ same-self (x .0)
+  agrees r e = ap (λ (a : Answer Clocks). isClocks a (x .clocks)) (decodes r e) ∙ same-self (x .clocks)
 
-  pub ending : Always Ends 1 (steps c (x .0)) earlier
+  pub ending : Always Ends 1 (steps c (x .clocks)) earlier
   ending =
-      always Wide Ends (λ s. eqb (s .sws) (c .sys)) (agreesOf c (x .0)) front tamed tt 1 earlier
+      always Wide Ends (λ s. eqb (s .sws) (c .sys)) (agreesOf c (x .clocks)) front tamed tt 1 earlier
       (λ r e. (agrees r e, (refl, refl, decodes r e)))

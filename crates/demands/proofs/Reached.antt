@@ -9,7 +9,6 @@ use lib.ListN.{drop}
 use Rattle.answer.specs.Answer.{gives}
 use Rattle.divider.specs.Divide.{ahbOf, ahbDivisor, ahbDivisors, apbOf, apbDivisor, byAhbOf, apbQuotientOf}
 use Rattle.divider.specs.Frequency.{over}
-use Rattle.tree.specs.declared.Clocks.{Clocks}
 use Rattle.tree.specs.Tree.{clocksOf, belowOf, busOf, timerClock}
 use Rattle.v4x7_rules.specs.Rules.{hseInRange, usedHseOf, mainPllInput, mainPllOf, ethPllOf, referenceCodeOf, twoThirds, sysPllOf, busesOf, totalOf, adcFromHclkOf, adcFromUsbHsOf}
 use Rattle.v4x7.specs.declared.Hse.the-variants as hse
@@ -17,6 +16,7 @@ use Rattle.v4x7.specs.declared.Pll.the-variants as pll
 use Rattle.v4x7.specs.declared.HsPll.the-variants as hspll
 use Rattle.v4x7.specs.declared.AdcClockSource.the-variants as adc
 use Rattle.v4x7.specs.declared.Config.{Config}
+use Rattle.v4x7.specs.declared.ClockRecord.{ClockRecord}
 use Rattle.v4x7.specs.Check.{checkOf, named, sourcesOf, rngOf, hsePresentOf, mainOf, ethOf}
 use Rattle.v4x7.specs.Check.{usbHsOf, referenceOf, sysPllInputOf, sysclkOf, systemOf, adcRatioOf, limitsOf, adcOf}
 use Rattle.image.specs.declared.Fields.{Fields}
@@ -53,11 +53,14 @@ busiest =
       «adc_duty» = 1;
     }
 
-abbrev pub promised : Clocks
+abbrev pub promised : ClockRecord
 promised =
-    record { sysclk = 200000000; hclk = 100000000; pclk1 = 100000000; pclk2 = 100000000; «pclk1_tim» = 100000000; «pclk2_tim» = 100000000 }
+    record {
+      clocks = record { sysclk = 200000000; hclk = 100000000; pclk1 = 100000000; pclk2 = 100000000; «pclk1_tim» = 100000000; «pclk2_tim» = 100000000 };
+      adc = 7500000;
+    }
 
-pub accepted : checkOf busiest ≡ gives (promised, 7500000)
+pub accepted : checkOf busiest ≡ gives promised
 unfolding checkOf named systemOf sourcesOf rngOf hsePresentOf hseInRange usedHseOf mainOf mainPllInput mainPllOf ethOf ethPllOf usbHsOf referenceOf
     referenceCodeOf sysclkOf sysPllInputOf twoThirds
     sysPllOf busesOf clocksOf belowOf busOf timerClock adcOf adcRatioOf limitsOf adcFromHclkOf adcFromUsbHsOf totalOf ahbOf ahbDivisor
@@ -88,7 +91,7 @@ abbrev bright : Reading
 bright = record { seen = record { hsirdy = true; hserdy = true; pllrdy = true; «usbhs_pllrdy» = true; «eth_pllrdy» = true; sws = 2 }; sckmod = 0 }
 
 abbrev pub P : List Entry
-P = steps busiest promised
+P = steps busiest (promised .clocks)
 
 -- The readings of 2, 4 and 7; of 10, 12, 15 and 18; of 21 and 27.
 readings : Slow P
@@ -107,7 +110,7 @@ most = refl
 reaches : (rd : Readings) (n : ℕ) → suc n ≡ mostCalls 1000000 P → run (machine P 1000000) n rd (begun busiest clear) .phase ≡ Going → Reached
 reaches rd n e g = (
   busiest,
-  (promised, 7500000),
+  promised,
   accepted,
   clear,
   clear-width,
@@ -119,5 +122,5 @@ reaches rd n e g = (
 
 pub reached : Reached
 reached =
-    let x = slow 999999 dark busiest P P 0 refl 0 clear readings (bounds busiest promised .1) in
+    let x = slow 999999 dark busiest P P 0 refl 0 clear readings (bounds busiest (promised .clocks) .1) in
     reaches (slowest 999999 dark P readings) (x .0) (x .1) (x .2)

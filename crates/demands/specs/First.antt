@@ -34,6 +34,7 @@ use Rattle.v4x7_rules.specs.Rules.{hseInRange, usedHseOf, mainPllOf, ethPllOf, 
 use Rattle.v4x7_rules.specs.Plain.{outside, allowed}
 use Rattle.v4x7_rules.specs.Order as rules
 use Rattle.v4x7.specs.declared.Config.{Config}
+use Rattle.v4x7.specs.declared.ClockRecord.{ClockRecord}
 use Rattle.v4x7.specs.declared.Checked.the-variants as checked
 use Rattle.v4x7.specs.Check.{checkedSays, checkOf}
 use Rattle.v4x7.specs.Order.{checkTests}
@@ -51,7 +52,6 @@ use Rattle.decoder.specs.Order.{decodeTests, queryTests}
 use Rattle.startup.specs.declared.Reading.{Reading}
 use Rattle.startup.specs.declared.Report.the-variants as report
 use Rattle.startup.specs.declared.Phase.the-variants.{Going}
-use Rattle.tree.specs.declared.Clocks.{Clocks}
 use Rattle.startup.specs.declared.Startup.{Startup}
 use Rattle.startup.specs.declared.Started.the-variants as started
 use Rattle.startup.specs.Call.{startedSays, startOf, stepOf, handedBack, waitsOwedOf, callBoundOf}
@@ -160,8 +160,8 @@ pub record Demand1 : Type 1 where
   pub waits : Answers replySays reply.Refused waitsOwedOf owedTests
   pub calls : Answers replySays reply.Refused callBoundOf owedTests
   -- one call of a startup that is not over: 28 where its configuration is not accepted, else by its list; one that is over repeats its last answer
-  pub step : (s : Startup) (r : Reading) {x : Clocks × ℕ} → s .phase ≡ Going → checkOf (s .config) ≡ gives x →
-      toldBy (stepOf s r .report) ≡ firstOf (stepTests (x .0) s r)
+  pub step : (s : Startup) (r : Reading) {x : ClockRecord} → s .phase ≡ Going → checkOf (s .config) ≡ gives x →
+      toldBy (stepOf s r .report) ≡ firstOf (stepTests (x .clocks) s r)
   pub unaccepted : (s : Startup) (r : Reading) {n : ℕ} → s .phase ≡ Going → checkOf (s .config) ≡ refuses n → stepOf s r ≡ handedBack s
   -- V1 and L1: the check, the fields, the decoder
   pub check1 :

@@ -8,7 +8,6 @@ use Prim.Native.Nat.{ℕ}
 use Rattle.answer.specs.Answer.{Answer, gives, refuses, _>>=_}
 use Rattle.divider.specs.Divide.{ahbOf, ahbDivisor, ahbDivisors, apbOf, apbDivisor, byAhbOf, apbQuotientOf}
 use Rattle.divider.specs.Frequency.{over}
-use Rattle.tree.specs.declared.Clocks.{Clocks}
 use Rattle.tree.specs.Tree.{clocksOf, belowOf, busOf, timerClock}
 use Rattle.v4x7_rules.specs.Rules.{hseInRange, usedHseOf, mainPllInput, mainPllOf, ethPllOf, referenceCodeOf, twoThirds, sysPllOf, busesOf}
 use Rattle.v4x7_rules.specs.Rules.{totalOf, adcFromHclkOf, adcFromUsbHsOf}
@@ -21,6 +20,7 @@ use Rattle.v4x7.specs.declared.HsPll.the-variants as hspll
 use Rattle.v4x7.specs.declared.AdcClockSource.{AdcClockSource}
 use Rattle.v4x7.specs.declared.AdcClockSource.the-variants as source
 use Rattle.v4x7.specs.declared.Config.{Config}
+use Rattle.v4x7.specs.declared.ClockRecord.{ClockRecord}
 use Rattle.v4x7.specs.Check.{checkOf, named, sourcesOf, rngOf, hsePresentOf, mainOf, ethOf}
 use Rattle.v4x7.specs.Check.{usbHsOf, referenceOf, sysPllInputOf, sysclkOf, systemOf, adcRatioOf, limitsOf, adcOf}
 use Rattle.layout.specs.Bits.{bitsAt}
@@ -88,24 +88,24 @@ adcBy code (h, m, s, v, u, e, a, b, f, p) = (h, m, s, v, u, e, a, b, f, code)
 
 -- What a row asks of the check's answer.
 abbrev Asks : Type 0
-Asks = Clocks × ℕ → List ℕ
+Asks = ClockRecord → List ℕ
 
 sysclk : Asks
-sysclk a = a .0 .sysclk ∷ []
+sysclk a = a .clocks .sysclk ∷ []
 
 hclk : Asks
-hclk a = a .0 .hclk ∷ []
+hclk a = a .clocks .hclk ∷ []
 
 adc : Asks
-adc a = a .1 ∷ []
+adc a = a .adc ∷ []
 
 -- PCLK2, its timer, ADC
 slow : Asks
-slow a = a .0 .pclk2 ∷ a .0 .«pclk2_tim» ∷ a .1 ∷ []
+slow a = a .clocks .pclk2 ∷ a .clocks .«pclk2_tim» ∷ a .adc ∷ []
 
 -- the seven numbers of the program
 seven : Asks
-seven a = a .0 .sysclk ∷ a .0 .hclk ∷ a .0 .pclk1 ∷ a .0 .pclk2 ∷ a .0 .«pclk1_tim» ∷ a .0 .«pclk2_tim» ∷ a .1 ∷ []
+seven a = let k = a .clocks in k .sysclk ∷ k .hclk ∷ k .pclk1 ∷ k .pclk2 ∷ k .«pclk1_tim» ∷ k .«pclk2_tim» ∷ a .adc ∷ []
 
 pub record Row : Type 0 where
   pub profile : List ℕ
@@ -182,10 +182,10 @@ rows-hold = refl
 
 -- Rows A11 and A2 whole, from their bytes to the check's answer.
 
-pub a11 : (_>>=_ (readProfile (0x00 ∷ 0x00 ∷ 0x00 ∷ 0x00 ∷ 0x00 ∷ 0x18 ∷ 0x00 ∷ 0x00 ∷ 0x00 ∷ 0x34 ∷ [])) checkOf) ≡ gives (
-  record { sysclk = 20000000; hclk = 20000000; pclk1 = 20000000; pclk2 = 20000000; «pclk1_tim» = 20000000; «pclk2_tim» = 20000000 },
-  2500000,
-)
+pub a11 : (_>>=_ (readProfile (0x00 ∷ 0x00 ∷ 0x00 ∷ 0x00 ∷ 0x00 ∷ 0x18 ∷ 0x00 ∷ 0x00 ∷ 0x00 ∷ 0x34 ∷ [])) checkOf) ≡ gives (record {
+  clocks = record { sysclk = 20000000; hclk = 20000000; pclk1 = 20000000; pclk2 = 20000000; «pclk1_tim» = 20000000; «pclk2_tim» = 20000000 };
+  adc = 2500000;
+})
 unfolding readProfile tests configOf bitsAt checkOf named sourcesOf rngOf hsePresentOf mainOf ethOf usbHsOf systemOf sysclkOf
     busesOf clocksOf belowOf busOf timerClock adcOf adcRatioOf limitsOf adcFromHclkOf totalOf ahbOf ahbDivisor ahbDivisors apbDivisor byAhbOf apbQuotientOf
     apbOf over

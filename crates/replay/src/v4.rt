@@ -7,10 +7,14 @@ use v4x7::Checked;
 pub fn check(q: &[u8; 128]) -> [u8; 64] {
     let config = query::config(q);
     let checked = config.clocks();
-    let Checked::Accepted { clocks, adc } = checked else {
+    let Checked::Accepted(accepted) = checked else {
         return reply::empty(1, v4x7::refused(checked));
     };
-    reply::word(reply::clocks(reply::empty(1, 0), 2, clocks), 26, adc)
+    reply::word(
+        reply::clocks(reply::empty(1, 0), 2, accepted.clocks),
+        26,
+        accepted.adc,
+    )
 }
 
 pub fn decode(q: &[u8; 128]) -> [u8; 64] {

@@ -6,6 +6,7 @@ use mathlib.Core.Bool.{Bool, true, false, cond, not, _||_}
 use lib.Dec.{ltb}
 use Rattle.answer.specs.Answer.{Answer}
 use Rattle.tree.specs.declared.Clocks.{Clocks}
+use Rattle.v4x7.specs.declared.ClockRecord.{ClockRecord}
 use Rattle.v4x7.specs.declared.Checked.{Checked}
 use Rattle.v4x7.specs.Check.{checkedSays, namedOf, checkOf}
 use Rattle.image.specs.declared.Seen.{Seen}
@@ -60,7 +61,7 @@ module _ (s : Startup) (r : Reading) {v w : Bool} (ev : v ≡ namedOf (s .config
   pub call-by : (not v || not w) ≡ false → s .phase ≡ Going → {k : Checked} → checkedSays k ≡ checkOf (s .config) → (j : Checked) → k ≡ j →
       stepBy (checkedSays j) s r Going ≡ stepOf s r
   call-by e p ek j q =
-      ap (λ (a : Answer (Clocks × ℕ)). stepBy a s r Going) (ap checkedSays (sym q) ∙ ek) ∙ ap (stepBy (checkOf (s .config)) s r) (sym p) ∙ chosen false e
+      ap (λ (a : Answer ClockRecord). stepBy a s r Going) (ap checkedSays (sym q) ∙ ek) ∙ ap (stepBy (checkOf (s .config)) s r) (sym p) ∙ chosen false e
 
 -- A call by whether its step is listed, with no more readings used than there can be.
 pub call-listed : (s : Startup) (r : Reading) (f : Fields) (w : Work) {b : Bool} → b ≡ listedOf (s .config) (s .step) →

@@ -9,6 +9,7 @@ use lib.Count.{ones}
 use Rattle.answer.specs.Answer.{Answer, gives, refuses, refuse, _>>=_, _>>_, settled-by}
 use Rattle.tree.specs.declared.Clocks.{Clocks}
 use Rattle.v4x7.specs.declared.Config.{Config}
+use Rattle.v4x7.specs.declared.ClockRecord.{ClockRecord}
 use Rattle.v4x7.specs.Check.{namedOf, checkOf, hasHse, hasUsbHs, hasMain}
 use Rattle.image.specs.declared.Seen.{Seen}
 use Rattle.image.specs.declared.Fields.{Fields}
@@ -138,10 +139,10 @@ abbrev pub seeing : Startup → Reading → Fields
 seeing s r = withSeen (s .fields) (seenOf r)
 
 -- After the end a call changes nothing and repeats the last answer; not over, a configuration that is not accepted is answered 28.
-abbrev pub stepBy : Answer (Clocks × ℕ) → Startup → Reading → Phase → Stepped
+abbrev pub stepBy : Answer ClockRecord → Startup → Reading → Phase → Stepped
 stepBy check s r (Over last) = record { startup = s; report = last }
 stepBy (refuses n) s r Going = handedBack s
-stepBy (gives x) s r Going = cameTo (nextOf (s .config) (s .step)) s (seeing s r) (comesTo (x .0) s r)
+stepBy (gives x) s r Going = cameTo (nextOf (s .config) (s .step)) s (seeing s r) (comesTo (x .clocks) s r)
 
 -- One call: 28 for a code before anything else, without a name in the configuration or too wide in the fields.
 unfoldable pub stepOf : Startup → Reading → Stepped

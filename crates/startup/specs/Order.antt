@@ -10,6 +10,7 @@ use Rattle.answer.specs.Answer.{Answer, gives, refuses}
 use Rattle.answer.specs.Order.{Test, firstOf, bare, InOrder, order-past, order-gives, order-bind, order-then}
 use Rattle.tree.specs.declared.Clocks.{Clocks}
 use Rattle.v4x7.specs.declared.Config.{Config}
+use Rattle.v4x7.specs.declared.ClockRecord.{ClockRecord}
 use Rattle.v4x7.specs.Check.{namedOf, checkOf}
 use Rattle.image.specs.declared.Fields.{Fields}
 use Rattle.image.specs.Image.{inWidth}
@@ -125,18 +126,18 @@ codes-first s x l true false h = refl
 codes-first s x l true true h = h
 
 -- a call of a startup that is not over, by the check's answer
-by-check : (s : Startup) (r : Reading) (a : Answer (Clocks × ℕ)) → s .phase ≡ Going → checkOf (s .config) ≡ a →
+by-check : (s : Startup) (r : Reading) (a : Answer ClockRecord) → s .phase ≡ Going → checkOf (s .config) ≡ a →
     stepOf s r ≡ cond (not (namedOf (s .config)) || not (inWidth (s .fields))) (handedBack s) (stepBy a s r Going)
 unfolding stepOf
 by-check s r a e q =
-    let by : Answer (Clocks × ℕ) → Phase → Stepped = λ b h. cond (not (namedOf (s .config)) || not (inWidth (s .fields))) (handedBack s) (stepBy b s r h) in
-    ap (by (checkOf (s .config))) e ∙ ap (λ (b : Answer (Clocks × ℕ)). by b Going) q
+    let by : Answer ClockRecord → Phase → Stepped = λ b h. cond (not (namedOf (s .config)) || not (inWidth (s .fields))) (handedBack s) (stepBy b s r h) in
+    ap (by (checkOf (s .config))) e ∙ ap (λ (b : Answer ClockRecord). by b Going) q
 
-pub step-in-order : (s : Startup) (r : Reading) {x : Clocks × ℕ} → s .phase ≡ Going → checkOf (s .config) ≡ gives x →
-    toldBy (stepOf s r .report) ≡ firstOf (stepTests (x .0) s r)
+pub step-in-order : (s : Startup) (r : Reading) {x : ClockRecord} → s .phase ≡ Going → checkOf (s .config) ≡ gives x →
+    toldBy (stepOf s r .report) ≡ firstOf (stepTests (x .clocks) s r)
 unfolding callOf
 step-in-order s r {x} e q =
-    let work = workOf (s .config) (x .0) (s .step) (s .fields) (seenOf r) in
+    let work = workOf (s .config) (x .clocks) (s .step) (s .fields) (seenOf r) in
     let on = listedOf (s .config) (s .step) in
     ap (λ (y : Stepped). toldBy (y .report)) (by-check s r (gives x) e q) ∙
     codes-first s (stepBy (gives x) s r Going) (workTests s r on work) (namedOf (s .config)) (inWidth (s .fields))

@@ -348,7 +348,7 @@ impl Startup {
             return Started::NotStarted(answer::CODE_NOT_ALLOWED);
         }
         let checked = config.clocks();
-        let Checked::Accepted { clocks: _, adc: _ } = checked else {
+        let Checked::Accepted(_) = checked else {
             return Started::NotStarted(refused(checked));
         };
         Started::Begun(Startup {
@@ -378,12 +378,12 @@ impl Startup {
             };
         }
         let checked = config.clocks();
-        let Checked::Accepted { clocks, adc: _ } = checked else {
+        let Checked::Accepted(accepted) = checked else {
             return handed_back(self);
         };
         if !listed(config, self.step) | (MOST_READINGS < self.used) {
             return handed_back(self);
         }
-        work(self, clocks, reading)
+        work(self, accepted.clocks, reading)
     }
 }

@@ -8,7 +8,7 @@ use native.Mathlib.Omega.{arith}
 use borrow.Author.Tests.{lt-leb, leb-true, ne-eqb, not-false}
 use lib.Dec.{ltb, eqb}
 use lib.ListN.{take, drop}
-use Rattle.answer.specs.Answer.{gives, _>>=_, _>>_}
+use Rattle.answer.specs.Answer.{gives, _>>_}
 use Rattle.answer.specs.Order.{firstOf, bare, none-holds, failed, OrElse, else-gives, else-known, else-not, else-skip, else-drop, else-past, else-refuse, else-bind, else-where, else-then, else-order}
 use Rattle.answer.specs.Tools.{false-true}
 use Rattle.divider.specs.declared.Family.the-variants.{V4x7}
@@ -16,7 +16,6 @@ use Rattle.divider.specs.declared.Frequency.{Frequency}
 use Rattle.divider.specs.Divide.{apbDivisor}
 use Rattle.divider.specs.Frequency.{whole, over}
 use Rattle.tree.specs.Order.{clocksAt}
-use Rattle.tree.specs.declared.Clocks.{Clocks}
 use Rattle.tree.specs.declared.Output.{Output}
 use Rattle.tree.specs.declared.Output.the-variants as output
 use Rattle.v4x7_rules.specs.Rules.{hseInRange, usedHseOf, referenceCodeOf, twoThirds, sysPllOf, busesOf}
@@ -31,7 +30,8 @@ use Rattle.v4x7.specs.declared.HsPll.the-variants as hspll
 use Rattle.v4x7.specs.declared.AdcClockSource.{AdcClockSource}
 use Rattle.v4x7.specs.declared.AdcClockSource.the-variants as adc
 use Rattle.v4x7.specs.declared.Config.{Config}
-use Rattle.v4x7.specs.Check.{namedPll, namedSource, namedOf, hasHse, hasMain, hasUsbHs, hseFrequencyOf, rngOf, hsePresentOf, mainOf, ethOf, referenceOf, usbHsOf, sourcesOf, sysPllInputOf, sysclkOf, systemOf, adcRatioOf, limitsOf, adcOf, checkOf}
+use Rattle.v4x7.specs.declared.ClockRecord.{ClockRecord}
+use Rattle.v4x7.specs.Check.{namedPll, namedSource, namedOf, hasHse, hasMain, hasUsbHs, hseFrequencyOf, rngOf, hsePresentOf, mainOf, ethOf, referenceOf, usbHsOf, sourcesOf, sysPllInputOf, sysclkOf, systemOf, adcRatioOf, limitsOf, adcOf, recordOf, checkOf}
 use Rattle.v4x7.specs.Laws.{Named, named-given}
 use Rattle.v4x7.specs.Order.{multiplier, mainPll, usbHsFrom, sysclk, adcFromUsbHs, adcSource, adcFirst, adcTotal, checkTests}
 
@@ -173,19 +173,21 @@ buses c n =
     (lt-leb 16 (c .«ahb_pre») (omega (arith, n .«ahb_pre»)))) (lt-leb 8 (c .«apb1_pre») (omega (arith, n .«apb1_pre»))))
     (lt-leb 8 (c .«apb2_pre») (omega (arith, n .«apb2_pre»)))
 
+-- the clock record, of plain numbers
+abbrev recorded : Config → ClockRecord
+recorded c =
+    record {
+      clocks = clocksAt V4x7 (whole (sysclk c)) (c .«ahb_pre») (c .«apb1_pre») (c .«apb2_pre»);
+      adc = adcSource c / adcTotal c;
+    }
+
 below : (c : Config) (sys : Frequency) → sys ≡ whole (sysclk c) → Named c →
-    OrElse {A = Clocks × ℕ} (take 5 (drop 15 (checkTests c)))
-    (clocksAt V4x7 (whole (sysclk c)) (c .«ahb_pre») (c .«apb1_pre») (c .«apb2_pre»), adcSource c / adcTotal c)
-    (do
-      clocks ← busesOf sys (c .«ahb_pre») (c .«apb1_pre») (c .«apb2_pre»)
-      adc ← adcOf (sys .hz) c
-      gives (clocks, adc))
+    OrElse (take 5 (drop 15 (checkTests c))) (recorded c) (recordOf sys c)
 below c sys e n =
     rw e (else-bind (buses c n) (λ k clocks. rw clocks (else-bind (adc-else c n) (λ a adc. rw adc else-gives))))
 
 -- the whole check: refused by the first of the list, or else the plain numbers
-pub check-else : (c : Config) →
-    OrElse (checkTests c) (clocksAt V4x7 (whole (sysclk c)) (c .«ahb_pre») (c .«apb1_pre») (c .«apb2_pre»), adcSource c / adcTotal c) (checkOf c)
+pub check-else : (c : Config) → OrElse (checkTests c) (recorded c) (checkOf c)
 unfolding checkOf
 check-else c =
     else-past 28 (not (namedOf c)) (λ e.

@@ -9,7 +9,6 @@ use Rattle.answer.specs.Answer.{Answer, gives, refuses, refuse, _>>=_, _>>_, se
 use Rattle.answer.specs.Tests.{every}
 use Rattle.divider.specs.declared.Frequency.{Frequency}
 use Rattle.divider.specs.Frequency.{whole, over}
-use Rattle.tree.specs.declared.Clocks.{Clocks}
 use Rattle.tree.specs.declared.HseFrequency.{HseFrequency}
 use Rattle.tree.specs.declared.HseFrequency.the-variants as frequency
 use Rattle.tree.specs.declared.Output.{Output}
@@ -24,6 +23,7 @@ use Rattle.v4x7.specs.declared.HsPll.the-variants as hspll
 use Rattle.v4x7.specs.declared.AdcClockSource.{AdcClockSource}
 use Rattle.v4x7.specs.declared.AdcClockSource.the-variants as adc
 use Rattle.v4x7.specs.declared.Config.{Config}
+use Rattle.v4x7.specs.declared.ClockRecord.{ClockRecord}
 use Rattle.v4x7.specs.declared.Checked.{Checked}
 use Rattle.v4x7.specs.declared.Checked.the-variants as checked
 
@@ -160,33 +160,38 @@ adcOf sys c = do
   x ← adcRatioOf sys (c .«ahb_pre») (c .«apb2_pre») (c .«adc_pre») (c .hspll) (c .«adc_src»)
   limitsOf (x .0) (x .1)
 
--- The check: 28 before anything else, then in order. The six clocks and, apart, the ADC frequency
-unfoldable pub checkOf : Config → Answer (Clocks × ℕ)
+-- HCLK (12). ADC 13, 14, 15, 16. The answer: the six clocks and, apart, the ADC frequency
+abbrev pub recordOf : Frequency → Config → Answer ClockRecord
+recordOf sys c = do
+  clocks ← busesOf sys (c .«ahb_pre») (c .«apb1_pre») (c .«apb2_pre»)
+  adc ← adcOf (sys .hz) c
+  gives (record { clocks = clocks; adc = adc })
+
+-- The check: 28 before anything else, then in order
+unfoldable pub checkOf : Config → Answer ClockRecord
 checkOf c = do
   refuse 28 (not (namedOf c))
   sys ← systemOf c
-  clocks ← busesOf sys (c .«ahb_pre») (c .«apb1_pre») (c .«apb2_pre»)
-  adc ← adcOf (sys .hz) c
-  gives (clocks, adc)
+  recordOf sys c
 
 -- What a `Checked` says; two that say the same are equal.
 
-abbrev pub checkedSays : Checked → Answer (Clocks × ℕ)
-checkedSays (checked.Accepted clocks adc) = gives (clocks, adc)
+abbrev pub checkedSays : Checked → Answer ClockRecord
+checkedSays (checked.Accepted x) = gives x
 checkedSays (checked.Refused n) = refuses n
 
 -- the number of a check that refuses, 0 of one that accepts
 abbrev pub refusedOf : Checked → ℕ
-refusedOf (checked.Accepted clocks adc) = 0
+refusedOf (checked.Accepted x) = 0
 refusedOf (checked.Refused n) = n
 
-checkedOf : Answer (Clocks × ℕ) → Checked
-checkedOf (gives x) = checked.Accepted (x .0) (x .1)
+checkedOf : Answer ClockRecord → Checked
+checkedOf (gives x) = checked.Accepted x
 checkedOf (refuses n) = checked.Refused n
 
 checked-again : (r : Checked) → checkedOf (checkedSays r) ≡ r
 unfolding checkedOf
-checked-again (checked.Accepted clocks adc) = refl
+checked-again (checked.Accepted x) = refl
 checked-again (checked.Refused n) = refl
 
 pub checked-settled : (r s : Checked) → checkedSays r ≡ checkedSays s → r ≡ s

@@ -61,9 +61,15 @@ pub struct Config {
     pub adc_duty: u8,
 }
 
-// The answer of the check: the six clocks and, apart, the ADC's frequency; or the first refusal in document 01's order.
+// The clock record of an accepted configuration: the six clocks and, apart, the ADC's frequency in Hz.
+pub struct ClockRecord {
+    pub clocks: Clocks,
+    pub adc: u32,
+}
+
+// The answer of the check: the clock record, or the first refusal in document 01's order.
 pub enum Checked {
-    Accepted { clocks: Clocks, adc: u32 },
+    Accepted(ClockRecord),
     Refused(u8),
 }
 
@@ -338,7 +344,7 @@ fn adc(sysclk: u32, c: Config) -> Reply
 }
 
 impl Config {
-    // The check: the configuration's clocks and the ADC's frequency, or the first refusal in document 01's order.
+    // The check: the configuration's clock record, or the first refusal in document 01's order.
     pub fn clocks(self) -> Checked
         ensures { λ r. ⌜ checkedSays r ≡ checkOf self ⌝ }
     {
@@ -356,7 +362,7 @@ impl Config {
                 let Reply::Is(hz) = sampled else {
                     return Checked::Refused(refusal(sampled));
                 };
-                Checked::Accepted { clocks, adc: hz }
+                Checked::Accepted(ClockRecord { clocks, adc: hz })
             }
         }
     }
@@ -367,7 +373,7 @@ pub fn refused(checked: Checked) -> u8
     ensures { λ r. ⌜ r ≡ refusedOf checked ⌝ }
 {
     match checked {
-        Checked::Accepted { clocks: _, adc: _ } => 0,
+        Checked::Accepted(_) => 0,
         Checked::Refused(n) => n,
     }
 }

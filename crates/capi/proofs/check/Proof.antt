@@ -23,12 +23,13 @@ returns c =
 returns-3 : tie.Need-returns-3
 unfolding checkRead
 returns-3 c =
-    let at-clocks = c .before .before .before in
+    let at-checked = c .before .before in
+    let at-clocks = at-checked .before .before in
     let at-config = at-clocks .before .before in
     let at-read-profile = at-config .before .before in
     simp (
       told readProfileSays (at-read-profile .read-profile .ensures) (at-config .config .given .1),
-      told checkedSays (at-clocks .clocks .ensures) (c .before .checked .given .1),
+      told checkedSays (at-clocks .clocks .ensures) (at-checked .checked .given .1),
     )
 
 pub check-spec : {M : Type 1} → statement M

@@ -1,11 +1,10 @@
 use mathlib.Core.Path.{_≡_, sym}
 use borrow.Author.Needs.{needs}
-use Rattle.answer.specs.Answer.{gives, _>>=_, told}
+use Rattle.answer.specs.Answer.{told}
 use Rattle.answer.specs.Said.{replySays}
 use Rattle.divider.specs.Frequency.{rateSays}
 use Rattle.tree.specs.Tree.{busesSays}
-use Rattle.v4x7_rules.specs.Rules.{busesOf}
-use Rattle.v4x7.specs.Check.{checkOf, adcOf}
+use Rattle.v4x7.specs.Check.{recordOf, checkOf}
 use Rattle.v4x7.proofs.Config.clocks.Statement.{statement}
 use Rattle.v4x7.proofs.Config.clocks.Tie as tie
 
@@ -29,11 +28,7 @@ returns-2 c =
 -- what the definition leaves to do where the system clock is known
 from-system : (c : tie.After-rate)
     → let self = c .before .before .before .before .before .args .self in
-    let sys = c .rate .given .0 .0 in
-    checkOf self ≡ (do
-      clocks ← busesOf sys (self .«ahb_pre») (self .«apb1_pre») (self .«apb2_pre»)
-      adc ← adcOf (sys .hz) self
-      gives (clocks, adc))
+    checkOf self ≡ recordOf (c .rate .given .0 .0) self
 unfolding checkOf
 from-system c =
     let at-system = c .before .before in
