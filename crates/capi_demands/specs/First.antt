@@ -32,6 +32,7 @@ use Rattle.capi_codec.specs.Codec.{profileFields, profileFrom, imageFields, ima
 use Rattle.startup.specs.declared.Stepped.{Stepped}
 use Rattle.capi_startup.specs.Calls.{begunWith, startRead, startBytes, callOf, stepBytes}
 use Rattle.capi_startup.specs.Order.{startReadTests, stepReadTests}
+use Rattle.capi_pll32.specs.Bytes.{sevenOf}
 use Rattle.capi_v1.specs.Calls as v1
 use Rattle.capi_v1.specs.Order as order1
 use Rattle.capi_v30x.specs.Calls as v30x
@@ -83,14 +84,14 @@ pub record Demand1InC : Type 0 where
   pub waits : (p : List ℕ) → ThroughOne (waitsRead p) (profileOrder.readTests p ++ behind (profile.readProfile p) owedTests)
   pub calls : (p : List ℕ) → ThroughOne (callsRead p) (profileOrder.readTests p ++ behind (profile.readProfile p) owedTests)
   -- V1 and L1
-  pub check1 : (part : ℕ) (c l l′ : List ℕ) (r : ℕ) → Given 7 (sevenWords (v1.checkRead part c)) l l′ r →
+  pub check1 : (part : ℕ) (c l l′ : List ℕ) (r : ℕ) → Given 7 (sevenWords (sevenOf (v1.checkRead part c))) l l′ r →
       r ≡ numberIn (firstOf (order1.checkCallTests part c l))
   pub decode1 : (part : ℕ) (f : List ℕ) (hz : ℕ) (l l′ : List ℕ) (r : ℕ) → Given 6 (sixWords (v1.decodeRead part f hz)) l l′ r →
       r ≡ numberIn (firstOf (order1.decodeCallTests part f hz l))
   pub fields1 : (part : ℕ) (c f l l′ : List ℕ) (r : ℕ) → Given 8 (v1.fieldBytes (v1.initRead part c f)) l l′ r →
       r ≡ numberIn (firstOf (order1.fieldsCallTests part c f l))
   -- V30x
-  pub check30 : (c l l′ : List ℕ) (r : ℕ) → Given 7 (sevenWords (v30x.checkRead c)) l l′ r → r ≡ numberIn (firstOf (order30.checkCallTests c l))
+  pub check30 : (c l l′ : List ℕ) (r : ℕ) → Given 7 (sevenWords (sevenOf (v30x.checkRead c))) l l′ r → r ≡ numberIn (firstOf (order30.checkCallTests c l))
   pub decode30 : (f : List ℕ) (hz : ℕ) (l l′ : List ℕ) (r : ℕ) → Given 6 (sixWords (v30x.decodeRead f hz)) l l′ r →
       r ≡ numberIn (firstOf (order30.decodeCallTests f hz l))
   pub fields30 : (c f l l′ : List ℕ) (r : ℕ) → Given 9 (v30x.fieldBytes (v30x.initRead c f)) l l′ r →

@@ -1,15 +1,18 @@
--- What the calls of CH32V1, CH32L1 and CH32V30x share: bytes that say yes or no, and HSE.
+-- What the calls of CH32V1, CH32L1 and CH32V30x share: bytes that say yes or no, HSE, and what a check gives.
 -- Assumes nothing.
 use Prim.Native.Nat.{ℕ}
 use mathlib.Core.Bool.{Bool, cond, _&&_, _||_}
 use mathlib.Core.List.{List}
 use lib.Dec.{eqb, leb}
 use lib.ListN.{getD}
+use Rattle.answer.specs.Answer.{Answer, gives, _>>=_}
 use Rattle.layout.specs.Bits.{bitsAt}
+use Rattle.tree.specs.declared.Clocks.{Clocks}
 use Rattle.tree.specs.declared.HseFrequency.{HseFrequency}
 use Rattle.tree.specs.declared.HseFrequency.the-variants as frequency
 use Rattle.pll32.specs.declared.Hse.{Hse}
 use Rattle.pll32.specs.declared.Hse.the-variants as hse
+use Rattle.pll32.specs.declared.ClockRecord.{ClockRecord}
 
 -- a byte of a record, and one that says yes or no: 1 or 0
 abbrev pub at : List ℕ → ℕ → ℕ
@@ -35,3 +38,9 @@ decoderHse hz = cond (eqb hz 0) frequency.Absent (frequency.Hz hz)
 -- Whether HSE has bytes that a configuration may have: an absent part's are zero
 abbrev pub hseAllowed : ℕ → ℕ → ℕ → Bool
 hseAllowed present bypass hz = yesOrNo present && yesOrNo bypass && (yes present || eqb bypass 0 && eqb hz 0)
+
+-- what a check gives, seven words: the six clocks and twice the USB divisor
+abbrev pub sevenOf : Answer ClockRecord → Answer (Clocks × ℕ)
+sevenOf m = do
+  x ← m
+  gives (x .clocks, x .usb)

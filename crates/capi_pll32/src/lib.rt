@@ -2,7 +2,7 @@
 ghost use mathlib.Core.Path.{_≡_};
 ghost use Rattle.pll32.specs.Pll.{checkedSays};
 ghost use Rattle.capi_give.specs.Given.{sevenfoldSays};
-ghost use Rattle.capi_pll32.specs.Bytes.{hseHzIn, configHse, decoderHse, hseAllowed};
+ghost use Rattle.capi_pll32.specs.Bytes.{hseHzIn, configHse, decoderHse, hseAllowed, sevenOf};
 use capi_give::Sevenfold;
 use pll32::Checked;
 use pll32::Hse;
@@ -46,11 +46,12 @@ pub fn hse_allowed(present: u8, bypass: u8, freq: u32) -> bool
 
 // A check's answer, to be given as seven words.
 pub fn seven(checked: Checked) -> Sevenfold
-    ensures { λ r. ⌜ sevenfoldSays r ≡ checkedSays checked ⌝ }
+    ensures { λ r. ⌜ sevenfoldSays r ≡ sevenOf (checkedSays checked) ⌝ }
 {
-    let Checked::Accepted { clocks, usb } = checked else {
+    let Checked::Accepted(accepted) = checked else {
         return Sevenfold::Refused(pll32::refused(checked));
     };
-    let more = usb as u32;
+    let clocks = accepted.clocks;
+    let more = accepted.usb as u32;
     Sevenfold::Are { clocks, more }
 }

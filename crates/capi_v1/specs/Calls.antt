@@ -8,6 +8,7 @@ use lib.ListN.{length}
 use Rattle.answer.specs.Answer.{Answer, gives, refuses, refuse, _>>=_, _>>_}
 use Rattle.layout.specs.Bits.{bit}
 use Rattle.tree.specs.declared.Clocks.{Clocks}
+use Rattle.pll32.specs.declared.ClockRecord.{ClockRecord}
 use Rattle.pll32.specs.Pll.{sourceOf}
 use Rattle.v1.specs.declared.Chip.{Chip}
 use Rattle.v1.specs.declared.Chip.the-variants as chip
@@ -95,7 +96,7 @@ fieldBytes m = do
   gives (bytesOf f)
 
 -- The check: 28 for a part neither 0 nor 1, then for the record, then as the check refuses
-unfoldable pub checkRead : ℕ → List ℕ → Answer (Clocks × ℕ)
+unfoldable pub checkRead : ℕ → List ℕ → Answer ClockRecord
 checkRead part l = do
   refuse 28 (ltb 1 part)
   c ← readConfig l

@@ -15,7 +15,7 @@ use Rattle.v1.specs.declared.Config.{Config}
 use Rattle.v1.specs.declared.Fields.{Fields}
 use Rattle.v1.specs.V1.{checkOf, decodeOf, fieldsOf}
 use Rattle.v1.specs.Order.{checkTests, check-in-order, decodeTests, decode-in-order, fieldsTests, fields-in-order}
-use Rattle.capi_pll32.specs.Bytes.{decoderHse}
+use Rattle.capi_pll32.specs.Bytes.{decoderHse, sevenOf}
 use Rattle.capi_pll32.specs.Order.{by-list, record-order, lent-order}
 use Rattle.capi_v1.specs.Calls.{chipOf, configOf, configAllowed, readConfig, fieldsIn, fieldsAllowed, readFields, bytesOf, fieldBytes, checkRead, decodeRead, initRead}
 
@@ -27,14 +27,14 @@ checkCallTests part l out =
     ∷ (28, not (configAllowed l))
     ∷ checkTests (chipOf part) (configOf l)
 
-pub check-call-in-order : (part : ℕ) (l out : List ℕ) → bare (written 7 (sevenWords (checkRead part l)) out) ≡ firstOf (checkCallTests part l out)
+pub check-call-in-order : (part : ℕ) (l out : List ℕ) → bare (written 7 (sevenWords (sevenOf (checkRead part l))) out) ≡ firstOf (checkCallTests part l out)
 unfolding checkRead readConfig
 check-call-in-order part l out =
-    lent-order 7 (sevenWords (checkRead part l)) out
-    (order-map _ (checkRead part l)
+    lent-order 7 (sevenWords (sevenOf (checkRead part l))) out
+    (order-map _ (sevenOf (checkRead part l)) (order-map _ (checkRead part l)
     (order-past 28 (ltb 1 part) (λ e.
     record-order (checkOf (chipOf part)) (not (eqb (length l) 14)) (not (configAllowed l)) (configOf l)
-    (by-list (checkTests (chipOf part) (configOf l)) (check-in-order (chipOf part) (configOf l)))))) .goes
+    (by-list (checkTests (chipOf part) (configOf l)) (check-in-order (chipOf part) (configOf l))))))) .goes
 
 abbrev pub decodeCallTests : ℕ → List ℕ → ℕ → List ℕ → List Test
 decodeCallTests part l hz out =

@@ -5,6 +5,7 @@ ghost use Rattle.pll32.specs.Pll.{checkedSays};
 ghost use Rattle.tree.specs.Tree.{busesSays};
 ghost use Rattle.v1.specs.V1.{writtenSays};
 ghost use Rattle.capi_give.specs.Given.{Given, sixWords, sevenWords};
+ghost use Rattle.capi_pll32.specs.Bytes.{sevenOf};
 ghost use Rattle.capi_v1.specs.Calls.{chipOf, configPll, configOf, configAllowed, readConfig, takenConfigSays, fieldsIn, fieldsAllowed, readFields, takenFieldsSays, bytesOf, fieldBytes, checkRead, decodeRead, initRead};
 use pll32::Checked;
 use tree::Buses;
@@ -152,7 +153,7 @@ fn check(part: u8, config: &[u8]) -> Checked
 // Refused by 32, 28, then by 3, 24, 20, 26.
 #[no_mangle]
 pub extern "C" fn wontabeli_v1_check(part: u8, config: &[u8], out: &mut [u32]) -> u8
-    ensures { λ r. ⌜ Given 7 (sevenWords (checkRead part (now (config .entry)))) (now (out .entry)) (now (out .exit)) r ⌝ }
+    ensures { λ r. ⌜ Given 7 (sevenWords (sevenOf (checkRead part (now (config .entry))))) (now (out .entry)) (now (out .exit)) r ⌝ }
 {
     capi_give::give_seven(capi_pll32::seven(check(part, config)), out)
 }

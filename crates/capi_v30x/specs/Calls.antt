@@ -8,6 +8,7 @@ use lib.ListN.{length}
 use Rattle.answer.specs.Answer.{Answer, gives, refuses, refuse, _>>=_, _>>_}
 use Rattle.layout.specs.Bits.{bit}
 use Rattle.tree.specs.declared.Clocks.{Clocks}
+use Rattle.pll32.specs.declared.ClockRecord.{ClockRecord}
 use Rattle.pll32.specs.Pll.{sourceOf}
 use Rattle.v30x.specs.declared.PllSource.{PllSource}
 use Rattle.v30x.specs.declared.PllSource.the-variants as source
@@ -115,7 +116,7 @@ fieldBytes m = do
   gives (bytesOf f)
 
 -- The check: 28 for the record, then as the check refuses
-unfoldable pub checkRead : List ℕ → Answer (Clocks × ℕ)
+unfoldable pub checkRead : List ℕ → Answer ClockRecord
 checkRead l = do
   c ← readConfig l
   checkOf c

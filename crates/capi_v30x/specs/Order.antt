@@ -15,7 +15,7 @@ use Rattle.v30x.specs.declared.Config.{Config}
 use Rattle.v30x.specs.declared.Fields.{Fields}
 use Rattle.v30x.specs.V30x.{checkOf, decodeOf, fieldsOf}
 use Rattle.v30x.specs.Order.{checkTests, check-in-order, decodeTests, decode-in-order, fieldsTests, fields-in-order}
-use Rattle.capi_pll32.specs.Bytes.{decoderHse}
+use Rattle.capi_pll32.specs.Bytes.{decoderHse, sevenOf}
 use Rattle.capi_pll32.specs.Order.{by-list, record-order, lent-order}
 use Rattle.capi_v30x.specs.Calls.{configOf, configAllowed, readConfig, fieldsIn, fieldsAllowed, readFields, bytesOf, fieldBytes, checkRead, decodeRead, initRead}
 
@@ -26,13 +26,13 @@ checkCallTests l out =
     ∷ (28, not (configAllowed l))
     ∷ checkTests (configOf l)
 
-pub check-call-in-order : (l out : List ℕ) → bare (written 7 (sevenWords (checkRead l)) out) ≡ firstOf (checkCallTests l out)
+pub check-call-in-order : (l out : List ℕ) → bare (written 7 (sevenWords (sevenOf (checkRead l))) out) ≡ firstOf (checkCallTests l out)
 unfolding checkRead readConfig
 check-call-in-order l out =
-    lent-order 7 (sevenWords (checkRead l)) out
-    (order-map _ (checkRead l)
+    lent-order 7 (sevenWords (sevenOf (checkRead l))) out
+    (order-map _ (sevenOf (checkRead l)) (order-map _ (checkRead l)
     (record-order checkOf (not (eqb (length l) 18)) (not (configAllowed l)) (configOf l)
-    (by-list (checkTests (configOf l)) (check-in-order (configOf l))))) .goes
+    (by-list (checkTests (configOf l)) (check-in-order (configOf l)))))) .goes
 
 abbrev pub decodeCallTests : List ℕ → ℕ → List ℕ → List Test
 decodeCallTests l hz out =

@@ -12,7 +12,6 @@ use Rattle.answer.specs.Answer.{Answer, gives, refuses, refuse, _>>_, settled-b
 use Rattle.divider.specs.declared.Frequency.{Frequency}
 use Rattle.divider.specs.Frequency.{whole}
 use Rattle.divider.specs.Table.{at}
-use Rattle.tree.specs.declared.Clocks.{Clocks}
 use Rattle.tree.specs.Tree.{clocksOf}
 use Rattle.pll32.specs.declared.Part.{Part}
 use Rattle.pll32.specs.declared.Part.the-variants.{V1, L1, V30x}
@@ -20,6 +19,7 @@ use Rattle.tree.specs.declared.HseFrequency.{HseFrequency}
 use Rattle.pll32.specs.declared.Setting.{Setting}
 use Rattle.tree.specs.declared.Output.{Output}
 use Rattle.tree.specs.declared.Output.the-variants as pll
+use Rattle.pll32.specs.declared.ClockRecord.{ClockRecord}
 use Rattle.pll32.specs.declared.Checked.{Checked}
 use Rattle.pll32.specs.declared.Checked.the-variants as checked
 use Rattle.pll32.specs.Answers.{Given}
@@ -27,13 +27,13 @@ use Rattle.pll32.specs.Pll.{checkedSays, factor, tooWide, wideSetting, f
 
 -- Nothing is left open: two results that a promise allows are equal.
 
-checkedOf : Answer (Clocks × ℕ) → Checked
-checkedOf (gives x) = checked.Accepted (x .0) (x .1)
+checkedOf : Answer ClockRecord → Checked
+checkedOf (gives x) = checked.Accepted x
 checkedOf (refuses n) = checked.Refused n
 
 checked-again : (r : Checked) → checkedOf (checkedSays r) ≡ r
 unfolding checkedOf
-checked-again (checked.Accepted k usb) = refl
+checked-again (checked.Accepted x) = refl
 checked-again (checked.Refused n) = refl
 
 pub checked-settled : (r s : Checked) → checkedSays r ≡ checkedSays s → r ≡ s
@@ -110,23 +110,23 @@ picks three false true hse checks reads same x e = same x (passed 20 three check
 picks three false false hse checks reads same x e = passed 20 three (gives (whole 8000000)) e .after
 
 -- then a decoder given the check's codes gives its clocks
-pub read-back : (part : Part) (hse : HseFrequency) (out : Output) (s : Setting) (sys ahb apb1 apb2 : ℕ) {k : Clocks} {u : ℕ} →
-    Reads part hse out s → configuredClocksOf part hse out sys ahb apb1 apb2 ≡ gives (k, u) →
-    decodedClocksOf part hse s sys ahb apb1 apb2 ≡ gives k
+pub read-back : (part : Part) (hse : HseFrequency) (out : Output) (s : Setting) (sys ahb apb1 apb2 : ℕ) {x : ClockRecord} →
+    Reads part hse out s → configuredClocksOf part hse out sys ahb apb1 apb2 ≡ gives x →
+    decodedClocksOf part hse s sys ahb apb1 apb2 ≡ gives (x .clocks)
 unfolding configuredClocksOf sysclkOf decodedClocksOf decodedSysclkOf
-read-back part hse out s sys ahb apb1 apb2 {k} reads e =
+read-back part hse out s sys ahb apb1 apb2 {x} reads e =
     let wide = passed 28 (tooWide sys ahb apb1 apb2) _ e in
     let system = bound (sysclkOf hse out sys) _ (wide .after) in
     let buses = bound (clocksOf (familyOf part) (system .value) ahb apb1 apb2) _ (system .after) in
-    let clocks : buses .value ≡ k = ap (λ (p : Clocks × ℕ). p .0) (same-given (buses .after)) in
+    let clocks : buses .value ≡ x .clocks = ap (λ (y : ClockRecord). y .clocks) (same-given (buses .after)) in
     let chosen : decodedSysclkOf part hse s sys ≡ gives (system .value) =
     picks (eqb sys 3) (eqb sys 1) (eqb sys 2) (neededHseOf hse) (pllAsSysclkOf out) (pllOutputOf part hse s) (reads .same)
     (system .value) (system .gave) in
     rw (reads .fits, wide .failed, chosen, buses .gave, clocks)
 
 -- a check whose system clock is the PLL has its output
-pub pll-chosen : (part : Part) (hse : HseFrequency) (out : Output) (sys ahb apb1 apb2 : ℕ) {k : Clocks} {u : ℕ} →
-    configuredClocksOf part hse out sys ahb apb1 apb2 ≡ gives (k, u) → sys ≡ 2 → Given (pllAsSysclkOf out)
+pub pll-chosen : (part : Part) (hse : HseFrequency) (out : Output) (sys ahb apb1 apb2 : ℕ) {x : ClockRecord} →
+    configuredClocksOf part hse out sys ahb apb1 apb2 ≡ gives x → sys ≡ 2 → Given (pllAsSysclkOf out)
 unfolding configuredClocksOf sysclkOf
 pll-chosen part hse out sys ahb apb1 apb2 e two =
     let wide = passed 28 (tooWide sys ahb apb1 apb2) _ e in

@@ -12,7 +12,6 @@ use Rattle.answer.specs.Tools.{neither}
 use Rattle.answer.specs.Lists.{order-either, order-under, order-skip, order-map, only-none, only-all}
 use Rattle.divider.specs.declared.Frequency.{Frequency}
 use Rattle.divider.specs.Frequency.{whole, over}
-use Rattle.tree.specs.declared.Clocks.{Clocks}
 use Rattle.tree.specs.declared.HseFrequency.{HseFrequency}
 use Rattle.tree.specs.declared.HseFrequency.the-variants as hse
 use Rattle.tree.specs.declared.Output.{Output}
@@ -23,7 +22,7 @@ use Rattle.pll32.specs.declared.Part.{Part}
 use Rattle.pll32.specs.declared.Source.{Source}
 use Rattle.pll32.specs.declared.Source.the-variants as source
 use Rattle.pll32.specs.declared.Setting.{Setting}
-use Rattle.pll32.specs.Pll.{hsiOf, factor, tooWide, wideSetting, familyOf, neededHseOf, sourceFrequencyOf, multipliedOf, pllOutputOf, pllAsSysclkOf, sysclkOf, usbOf, configuredClocksOf, decodedSysclkOf, decodedClocksOf}
+use Rattle.pll32.specs.Pll.{hsiOf, factor, tooWide, wideSetting, familyOf, neededHseOf, sourceFrequencyOf, multipliedOf, pllOutputOf, pllAsSysclkOf, sysclkOf, configuredClocksOf, decodedSysclkOf, decodedClocksOf}
 
 -- The parts, and their numbers: those of an absent part are 0.
 
@@ -132,7 +131,7 @@ unfolding configuredClocksOf sysclkOf
 configured-order part h out sys ahb apb1 apb2 =
     order-past 28 (tooWide sys ahb apb1 apb2) (λ narrow.
     order-bind (sysclkOf h out sys) (order-past 20 (eqb sys 3) (λ e. chosen-order (eqb sys 1) (eqb sys 2) (apart sys) h (as-sysclk out))) (λ x e.
-    order-map (λ (k : Clocks). (k, usbOf part out)) (clocksOf (familyOf part) x ahb apb1 apb2) (six-order part x sys ahb apb1 apb2 narrow)))
+    order-map _ (clocksOf (familyOf part) x ahb apb1 apb2) (six-order part x sys ahb apb1 apb2 narrow)))
 
 -- once its codes are in their fields, and it is known whether a PLL is configured
 pub configured-where : (part : Part) (h : HseFrequency) (out : Output) (sys ahb apb1 apb2 : ℕ) {absent : Bool} → noPll out ≡ absent →

@@ -21,17 +21,18 @@ use Rattle.pll32.specs.declared.Source.the-variants as source
 use Rattle.pll32.specs.declared.Setting.{Setting}
 use Rattle.tree.specs.declared.Output.{Output}
 use Rattle.tree.specs.declared.Output.the-variants as pll
+use Rattle.pll32.specs.declared.ClockRecord.{ClockRecord}
 use Rattle.pll32.specs.declared.Checked.{Checked}
 use Rattle.pll32.specs.declared.Checked.the-variants as checked
 
 -- What a check says: the six clocks, and the USB divisor doubled
-abbrev pub checkedSays : Checked → Answer (Clocks × ℕ)
-checkedSays (checked.Accepted k usb) = gives (k, usb)
+abbrev pub checkedSays : Checked → Answer ClockRecord
+checkedSays (checked.Accepted x) = gives x
 checkedSays (checked.Refused n) = refuses n
 
 -- the number of a check that refuses, 0 of one that doesn't
 abbrev pub refusedOf : Checked → ℕ
-refusedOf (checked.Accepted k usb) = 0
+refusedOf (checked.Accepted x) = 0
 refusedOf (checked.Refused n) = n
 
 -- the row of a part in the table of factors
@@ -131,12 +132,12 @@ usbOf part pll.Absent = 0
 usbOf part (pll.At x) = usbDivisor part (x .hz)
 
 -- the end of the check
-unfoldable pub configuredClocksOf : Part → HseFrequency → Output → ℕ → ℕ → ℕ → ℕ → Answer (Clocks × ℕ)
+unfoldable pub configuredClocksOf : Part → HseFrequency → Output → ℕ → ℕ → ℕ → ℕ → Answer ClockRecord
 configuredClocksOf part hse out sys ahb apb1 apb2 = do
   refuse 28 (tooWide sys ahb apb1 apb2)
   x ← sysclkOf hse out sys
   clocks ← clocksOf (familyOf part) x ahb apb1 apb2
-  gives (clocks, usbOf part out)
+  gives (record { clocks = clocks; usb = usbOf part out })
 
 -- SYSCLK in the decoder: refused only where the clock in use needs it; code 3 is read as HSI
 unfoldable pub decodedSysclkOf : Part → HseFrequency → Setting → ℕ → Answer Frequency

@@ -38,10 +38,15 @@ pub struct Setting {
     pub mul: u8,
 }
 
-// The answer of a check: the six clocks and, apart, the USB divisor of the PLL's output, doubled (1.5 is 3), 0 for none; or the first
-// refusal in document 01's order.
+// The clock record of an accepted configuration: the six clocks and, apart, the USB divisor of the PLL's output, doubled (1.5 is 3), 0 for none.
+pub struct ClockRecord {
+    pub clocks: Clocks,
+    pub usb: u8,
+}
+
+// The answer of a check: the clock record, or the first refusal in document 01's order.
 pub enum Checked {
-    Accepted { clocks: Clocks, usb: u8 },
+    Accepted(ClockRecord),
     Refused(u8),
 }
 
@@ -258,10 +263,10 @@ pub fn configured_clocks(
     };
     match tree::bus_clocks(family(part), x, ahb, apb1, apb2) {
         Buses::Refused(n) => Checked::Refused(n),
-        Buses::Run(clocks) => Checked::Accepted {
+        Buses::Run(clocks) => Checked::Accepted(ClockRecord {
             clocks,
             usb: usb(part, output),
-        },
+        }),
     }
 }
 
@@ -270,7 +275,7 @@ pub fn refused(checked: Checked) -> u8
     ensures { λ r. ⌜ r ≡ refusedOf checked ⌝ }
 {
     match checked {
-        Checked::Accepted { clocks: _, usb: _ } => 0,
+        Checked::Accepted(_) => 0,
         Checked::Refused(n) => n,
     }
 }

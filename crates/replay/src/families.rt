@@ -73,10 +73,14 @@ fn v1_fields(x: [u8; 33]) -> v1::Fields {
 }
 
 fn checked(kind: u8, answer: Checked) -> [u8; 64] {
-    let Checked::Accepted { clocks, usb } = answer else {
+    let Checked::Accepted(accepted) = answer else {
         return reply::empty(kind, pll32::refused(answer));
     };
-    reply::byte(reply::clocks(reply::empty(kind, 0), 2, clocks), 26, usb)
+    reply::byte(
+        reply::clocks(reply::empty(kind, 0), 2, accepted.clocks),
+        26,
+        accepted.usb,
+    )
 }
 
 fn v1_written(kind: u8, answer: v1::Written) -> [u8; 64] {

@@ -7,7 +7,6 @@ use Prim.Native.Nat.{ℕ}
 use Rattle.answer.specs.Answer.{Answer, gives, refuses, _>>=_}
 use Rattle.divider.specs.Divide.{byAhbOf, ahbOf, ahbDivisor, ahbDivisors, apbQuotientOf, apbOf, apbDivisor}
 use Rattle.divider.specs.Frequency.{over}
-use Rattle.tree.specs.declared.Clocks.{Clocks}
 use Rattle.tree.specs.Tree.{clocksOf, belowOf, busOf, timerClock}
 use Rattle.pll32.specs.declared.Hse.{Hse}
 use Rattle.pll32.specs.declared.Hse.the-variants as hse
@@ -15,6 +14,7 @@ use Rattle.tree.specs.declared.HseFrequency.{HseFrequency}
 use Rattle.tree.specs.declared.HseFrequency.the-variants as frequency
 use Rattle.pll32.specs.declared.Source.{Source}
 use Rattle.pll32.specs.declared.Source.the-variants as from
+use Rattle.pll32.specs.declared.ClockRecord.{ClockRecord}
 use Rattle.pll32.specs.Answers.{Worked}
 use Rattle.pll32.specs.Pll.{factor, multipliedOf, pllOutputOf, sysclkOf, usbDivisor, configuredClocksOf, decodedSysclkOf, decodedClocksOf}
 use Rattle.v1.specs.declared.Chip.{Chip}
@@ -39,10 +39,10 @@ xtal : ℕ → Hse
 xtal hz = hse.Present false hz
 
 -- A row: a configuration, and HCLK with the USB divisor doubled, or the refusal.
-brief : Answer (Clocks × ℕ) → Answer (ℕ × ℕ)
+brief : Answer ClockRecord → Answer (ℕ × ℕ)
 brief m = do
   a ← m
-  gives (a .0 .hclk, a .1)
+  gives (a .clocks .hclk, a .usb)
 
 pub rows : List ((Chip × Config) × Answer (ℕ × ℕ))
 rows =
@@ -88,7 +88,7 @@ named =
 pub runs : Chip → Config → Answer ℕ
 runs chip c = do
   a ← checkOf chip c
-  gives (a .0 .sysclk)
+  gives (a .clocks .sysclk)
 
 pub named-hold : (chip : Chip) → Worked (runs chip) named
 unfolding setupAt xtal named runs

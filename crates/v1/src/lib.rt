@@ -2,7 +2,7 @@
 ghost use mathlib.Core.Path.{_≡_};
 ghost use Rattle.tree.specs.Tree.{busesSays, madeSays};
 ghost use Rattle.pll32.specs.Pll.{checkedSays};
-ghost use Rattle.v1.specs.V1.{partOf, predivCode, widePll, wideConfig, settingOf, configuredPllOf, checkOf, wideFields, predivCodeIn, settingIn, decodeOf, pllFields, writtenOf, fieldsOf, writtenSays};
+ghost use Rattle.v1.specs.V1.{partOf, predivCode, widePll, wideConfig, configuredPllOf, checkOf, wideFields, predivCodeIn, settingIn, decodeOf, pllFields, writtenOf, fieldsOf, writtenSays};
 use divider::Rate;
 use pll32::Checked;
 use pll32::Hse;
@@ -237,7 +237,7 @@ pub fn init_fields(chip: Chip, config: Config, earlier: Fields) -> Written
         return Written::Refused(answer::CODE_NOT_ALLOWED);
     }
     let checked = check(chip, config);
-    let Checked::Accepted { clocks: _, usb: _ } = checked else {
+    let Checked::Accepted(_) = checked else {
         return Written::Refused(pll32::refused(checked));
     };
     Written::Is(written_of(config, earlier))

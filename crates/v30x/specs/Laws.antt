@@ -9,11 +9,11 @@ use lib.Dec.{eqb, leb}
 use Rattle.answer.specs.Answer.{Answer, gives, refuses, settled-by, bound, followed, passed, refuses-gives}
 use Rattle.answer.specs.Tools.{neither}
 use Rattle.divider.specs.declared.Frequency.{Frequency}
-use Rattle.tree.specs.declared.Clocks.{Clocks}
 use Rattle.pll32.specs.declared.Part.the-variants as part
 use Rattle.tree.specs.declared.HseFrequency.{HseFrequency}
 use Rattle.pll32.specs.declared.Source.{Source}
 use Rattle.pll32.specs.declared.Source.the-variants as from
+use Rattle.pll32.specs.declared.ClockRecord.{ClockRecord}
 use Rattle.tree.specs.declared.Output.{Output}
 use Rattle.tree.specs.declared.Output.the-variants as output
 use Rattle.pll32.specs.Pll.{hseFrequencyOf, tooWide, wideSetting, pllOutputOf, pllAsSysclkOf, configuredClocksOf}
@@ -110,14 +110,14 @@ serves hse source.Pll2 (pll.Present prediv mul) f narrow fits codes e =
     refuses-gives e
 
 -- what a configuration that the check accepts has passed
-record Takes (c : Config) (k : Clocks) (u : ℕ) : Type 0 where
+record Takes (c : Config) (x : ClockRecord) : Type 0 where
   out : Output
   main : configuredPllOf (hseFrequencyOf (c .hse)) (c .«pll_src») (c .pll) ≡ gives out
   narrow : widePll (c .pll) ≡ false
   codes : tooWide (c .sys) (c .«ahb_pre») (c .«apb1_pre») (c .«apb2_pre») ≡ false
-  ends : configuredClocksOf part.V30x (hseFrequencyOf (c .hse)) out (c .sys) (c .«ahb_pre») (c .«apb1_pre») (c .«apb2_pre») ≡ gives (k, u)
+  ends : configuredClocksOf part.V30x (hseFrequencyOf (c .hse)) out (c .sys) (c .«ahb_pre») (c .«apb1_pre») (c .«apb2_pre») ≡ gives x
 
-takes : (c : Config) {k : Clocks} {u : ℕ} → checkOf c ≡ gives (k, u) → Takes c k u
+takes : (c : Config) {x : ClockRecord} → checkOf c ≡ gives x → Takes c x
 unfolding checkOf sourcesOf wideConfig
 takes c e =
     let wide = passed 28 (wideConfig c) _ e in
@@ -139,8 +139,8 @@ unless : (a b d : Bool) → (a ≡ true → (b && d) ≡ false) → (a && b && d
 unless true b d h = h refl
 unless false b d h = refl
 
-decodes : (c : Config) (f : Fields) {k : Clocks} {u : ℕ} → leb 16 (f .prediv1) ≡ false → leb 16 (f .pllmul) ≡ false →
-    checkOf c ≡ gives (k, u) → decodeOf (writtenOf c f) (hseFrequencyOf (c .hse)) ≡ gives k
+decodes : (c : Config) (f : Fields) {x : ClockRecord} → leb 16 (f .prediv1) ≡ false → leb 16 (f .pllmul) ≡ false →
+    checkOf c ≡ gives x → decodeOf (writtenOf c f) (hseFrequencyOf (c .hse)) ≡ gives (x .clocks)
 unfolding decodeOf writtenOf wideFields settingIn
 decodes c f narrow fits e =
     let t = takes c e in
@@ -154,13 +154,13 @@ decodes c f narrow fits e =
     (by .reads) (t .ends))
 
 -- decoding the written fields, with the same HSE, gives the clocks that the check promised
-pub fields-decode : (c : Config) (f : Fields) {g : Fields} {k : Clocks} {u : ℕ} → fieldsOf c f ≡ gives g →
-    checkOf c ≡ gives (k, u) → decodeOf g (hseFrequencyOf (c .hse)) ≡ gives k
+pub fields-decode : (c : Config) (f : Fields) {g : Fields} {x : ClockRecord} → fieldsOf c f ≡ gives g →
+    checkOf c ≡ gives x → decodeOf g (hseFrequencyOf (c .hse)) ≡ gives (x .clocks)
 unfolding fieldsOf wideFields
-fields-decode c f {g} {k} e q =
+fields-decode c f {g} {x} e q =
     let wide = passed 28 (wideFields f) _ e in
     let checked = bound (checkOf c) _ (wide .after) in
     let left : writtenOf c f ≡ g = cc (checked .after) in
     let codes = neither (wideSetting (f .prediv1) (f .pllmul)) (tooWide (f .sws) (f .hpre) (f .ppre1) (f .ppre2)) (wide .failed) in
     let both = neither (leb 16 (f .prediv1)) (leb 16 (f .pllmul)) (codes .0) in
-    subst (λ (g : Fields). decodeOf g (hseFrequencyOf (c .hse)) ≡ gives k) left (decodes c f (both .0) (both .1) q)
+    subst (λ (g : Fields). decodeOf g (hseFrequencyOf (c .hse)) ≡ gives (x .clocks)) left (decodes c f (both .0) (both .1) q)

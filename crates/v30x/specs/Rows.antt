@@ -7,7 +7,6 @@ use Prim.Native.Nat.{ℕ}
 use Rattle.answer.specs.Answer.{Answer, gives, refuses, _>>=_}
 use Rattle.divider.specs.Divide.{byAhbOf, ahbOf, ahbDivisor, ahbDivisors, apbQuotientOf, apbOf, apbDivisor}
 use Rattle.divider.specs.Frequency.{over}
-use Rattle.tree.specs.declared.Clocks.{Clocks}
 use Rattle.tree.specs.Tree.{clocksOf, belowOf, busOf, timerClock}
 use Rattle.pll32.specs.declared.Hse.{Hse}
 use Rattle.pll32.specs.declared.Hse.the-variants as hse
@@ -15,6 +14,7 @@ use Rattle.tree.specs.declared.HseFrequency.{HseFrequency}
 use Rattle.tree.specs.declared.HseFrequency.the-variants as frequency
 use Rattle.pll32.specs.declared.Source.{Source}
 use Rattle.pll32.specs.declared.Source.the-variants as from
+use Rattle.pll32.specs.declared.ClockRecord.{ClockRecord}
 use Rattle.pll32.specs.Answers.{Worked}
 use Rattle.pll32.specs.Pll.{factor, multipliedOf, pllOutputOf, sysclkOf, usbDivisor, configuredClocksOf, decodedSysclkOf, decodedClocksOf}
 use Rattle.v30x.specs.declared.PllSource.{PllSource}
@@ -56,10 +56,10 @@ usbhs : Hse → ℕ → PllSource → Pll → Source → ℕ → Config
 usbhs hse sys source pll feeds pre = setup hse sys source pll pllx.Absent 0 feeds (hspll.Present pre)
 
 -- A row: a configuration, and HCLK with the USB divisor doubled, or the refusal.
-brief : Answer (Clocks × ℕ) → Answer (ℕ × ℕ)
+brief : Answer ClockRecord → Answer (ℕ × ℕ)
 brief m = do
   a ← m
-  gives (a .0 .hclk, a .1)
+  gives (a .clocks .hclk, a .usb)
 
 pub rows : List (Config × Answer (ℕ × ℕ))
 rows =
@@ -108,7 +108,7 @@ named =
 pub runs : Config → Answer ℕ
 runs c = do
   a ← checkOf c
-  gives (a .0 .sysclk)
+  gives (a .clocks .sysclk)
 
 pub named-hold : Worked runs named
 unfolding setup xtal named runs

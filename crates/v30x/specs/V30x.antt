@@ -11,6 +11,7 @@ use Rattle.tree.specs.declared.HseFrequency.{HseFrequency}
 use Rattle.pll32.specs.declared.Source.{Source}
 use Rattle.pll32.specs.declared.Source.the-variants as from
 use Rattle.pll32.specs.declared.Setting.{Setting}
+use Rattle.pll32.specs.declared.ClockRecord.{ClockRecord}
 use Rattle.tree.specs.declared.Output.{Output}
 use Rattle.tree.specs.declared.Output.the-variants as output
 use Rattle.pll32.specs.Pll.{hseFrequencyOf, tooWide, wideSetting, sourceFrequencyOf, pllOutputOf, configuredClocksOf, sourceOf, decodedClocksOf}
@@ -89,7 +90,7 @@ sourcesOf hse c = do
   gives out
 
 -- The check: 28, then the sources, then SYSCLK: 20, 3, 26. The six clocks and the USB divisor
-unfoldable pub checkOf : Config → Answer (Clocks × ℕ)
+unfoldable pub checkOf : Config → Answer ClockRecord
 checkOf c = do
   refuse 28 (wideConfig c)
   out ← sourcesOf (hseFrequencyOf (c .hse)) c

@@ -323,7 +323,7 @@ pub fn init_fields(config: Config, earlier: Fields) -> Written
         return Written::Refused(answer::CODE_NOT_ALLOWED);
     }
     let checked = check(config);
-    let Checked::Accepted { clocks: _, usb: _ } = checked else {
+    let Checked::Accepted(_) = checked else {
         return Written::Refused(pll32::refused(checked));
     };
     Written::Is(written_of(config, earlier))

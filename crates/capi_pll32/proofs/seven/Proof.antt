@@ -9,4 +9,4 @@ seven-spec =
     (tie.spec (search needs) (search needs) (search needs)
     (λ c. rw (c .refused .ensures, c .before .enum-told .given .1) refl)
     (search needs)
-    (λ c. rw (c .before .checked .given .1) refl))
+    (λ c. rw (c .before .before .before .checked .given .1) refl))
