@@ -111,8 +111,8 @@ usbhs-laid : (c : Config) (p : HsPll) (f g : Fields) → g .cfgr2 .usbhspllsrc �
 unfolding usbHsOf
 usbhs-laid c hspll.Absent f g a b q = tt
 usbhs-laid c (hspll.From s) f g a b q =
-    let r = bound (referenceOf (hseFrequencyOf (c .hse)) (c .ethpll) s) (λ x. _>>_ (referenceCodeOf (x .hz)) (gives tt)) q in
-    let k = followed (referenceCodeOf (r .value .hz)) (gives tt) (r .after) in
+    let r = bound (referenceOf (hseFrequencyOf (c .hse)) (c .ethpll) s) _ q in
+    let k = followed (referenceCodeOf (r .value .hz)) _ (r .after) in
     let found = reference-is (c .hse) (c .ethpll) s (r .gave) in
     let code : codeOf (c .hse) s ≡ k .value = ap (λ (hz : ℕ). orZero (referenceCodeOf hz)) found ∙ ap orZero (k .gave) in (
       a,
