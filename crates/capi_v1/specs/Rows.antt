@@ -1,6 +1,6 @@
 -- Worked records of CH32V1 and CH32L1: bytes, and what is read of them. Each byte that says yes or no is once 1 and once 0.
 -- Assumes nothing.
-use mathlib.Core.Path.{refl}
+use mathlib.Core.Path.{_≡_, refl}
 use mathlib.Core.Bool.{true, false}
 use mathlib.Core.List.{List, [], _∷_}
 use Prim.Native.Nat.{ℕ}
@@ -9,11 +9,16 @@ use Rattle.layout.specs.Bits.{bitsAt}
 use Rattle.pll32.specs.declared.Hse.the-variants as hse
 use Rattle.pll32.specs.declared.Source.the-variants as source
 use Rattle.pll32.specs.Answers.{Worked}
+use Rattle.v1.specs.declared.Chip.the-variants as chip
 use Rattle.v1.specs.declared.PllPreDiv.the-variants.{Div1, Div2}
 use Rattle.v1.specs.declared.Pll.the-variants as pll
 use Rattle.v1.specs.declared.Config.{Config}
 use Rattle.v1.specs.declared.Fields.{Fields}
-use Rattle.capi_v1.specs.Calls.{configAllowed, configOf, readConfig, readFields}
+use Rattle.capi_v1.specs.Calls.{chipOf, configAllowed, configOf, readConfig, readFields}
+
+-- the parts by their number (include/wontabeli_numbers.h): 0 V1, 1 L1
+pub parts : (chipOf 0 ≡ chip.V1) × (chipOf 1 ≡ chip.L1)
+parts = (refl, refl)
 
 -- 25,000,000 is 01 7D 78 40
 pub configs : List (List ℕ × Answer Config)

@@ -1,7 +1,7 @@
 -- Laws of CH32H4: each multiplier is its name's, and the timers run at PCLK.
 -- Assumes nothing.
 use mathlib.Core.Path.{_≡_, refl}
-use mathlib.Core.Bool.{Bool, true, false, cond}
+use mathlib.Core.Bool.{Bool}
 use mathlib.Core.List.{List, [], _∷_}
 use Prim.Native.Nat.{ℕ, _*_, _<_}
 use lib.Dec.{eqb, eqb→eq}
@@ -14,6 +14,7 @@ use Rattle.divider.specs.Divide.{apbOf, apbQuotientOf, byAhbOf, ahbOf, ahbDivis
 use Rattle.divider.specs.Laws.{by-apb-quotient}
 use Rattle.divider.specs.Table.{at}
 use Rattle.tree.specs.Tree.{busOf, timerClock, belowOf}
+use Rattle.tree.specs.Laws.{h4-timers}
 use Rattle.h4.specs.H4.{doubles, pclkOf, prescaledOf}
 
 -- the multipliers that 003's list names, in tenths: MUL4, MUL6, MUL7, MUL8, MUL8_5, ..
@@ -29,10 +30,6 @@ right i x = eqb (5 * x) (getD tenths i 0)
 pub named : (i : ℕ) → i < 32 → 5 * getD doubles i 0 ≡ getD tenths i 0
 unfolding right
 named i h = eqb→eq (5 * getD doubles i 0) (getD tenths i 0) (at right doubles tt i h)
-
-same : (b : Bool) (x : ℕ) → cond b x x ≡ x
-same true x = refl
-same false x = refl
 
 -- what `busOf` and `pclkOf` make of a divisor and its quotient
 abbrev timed : Answer (ℕ × Frequency) → Answer (Frequency × ℕ)
@@ -51,8 +48,7 @@ twin m = do
   gives (pclk, pclk .hz)
 
 timer : (m : Answer (ℕ × Frequency)) → timed m ≡ twin (quotient m)
-unfolding timerClock
-timer (gives q) = rw (same (eqb (q .0) 1) (q .1 .hz))
+timer (gives q) = rw (h4-timers (q .0) (q .1 .hz))
 timer (refuses n) = refl
 
 -- a bus of the record is that of `pclkOf`: timers always PCLK

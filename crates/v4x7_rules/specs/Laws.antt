@@ -2,6 +2,7 @@
 -- Assumes nothing.
 use mathlib.Core.Path.{_≡_, refl}
 use mathlib.Core.Bool.{_||_}
+use mathlib.Core.List.{List, [], _∷_, map}
 use Prim.Native.Nat.{ℕ, _+_, _*_, _<_}
 use native.Mathlib.Omega.{arith}
 use borrow.Author.Tests.{leb-false, ltb-false}
@@ -15,7 +16,7 @@ use Rattle.divider.specs.Facts.{Between, between-times}
 use Rattle.divider.specs.Frequency.{whole, over}
 use Rattle.divider.specs.Laws.{ahb-each, apb-each}
 use Rattle.tree.specs.Tree.{clocksOf, belowOf, busOf, timerClock}
-use Rattle.v4x7_rules.specs.Rules.{twoThirds, busesOf, totalOf, adcFromHclkOf, adcFromUsbHsOf}
+use Rattle.v4x7_rules.specs.Rules.{doubled, twoThirds, busesOf, totalOf, adcFromHclkOf, adcFromUsbHsOf}
 
 -- the ADC's own divisor
 own : (adcpre : ℕ) → adcpre < 4 → Between 8 (2 * (adcpre + 1))
@@ -47,6 +48,15 @@ usbhs-given d ppre2 adcpre = each-at (from-usbhs d ppre2 adcpre)
 
 pub hclk-given : (sys hpre ppre2 adcpre : ℕ) {x : ℕ × ℕ} → adcFromHclkOf sys hpre ppre2 adcpre ≡ gives x → Between 65536 (x .1)
 hclk-given sys hpre ppre2 adcpre = each-at (from-hclk sys hpre ppre2 adcpre)
+
+-- the multipliers that 000's list names, in tenths: MUL8, MUL9, MUL10, MUL11, MUL12, MUL12_5, ..
+abbrev tenths : List ℕ
+tenths =
+    80 ∷ 90 ∷ 100 ∷ 110 ∷ 120 ∷ 125 ∷ 130 ∷ 135 ∷ 140 ∷ 145 ∷ 150 ∷ 155 ∷ 160 ∷ 165 ∷ 170 ∷ 175
+    ∷ 180 ∷ 185 ∷ 190 ∷ 195 ∷ 200 ∷ 210 ∷ 220 ∷ 240 ∷ 260 ∷ 280 ∷ 300 ∷ 320 ∷ 340 ∷ 360 ∷ 380 ∷ 400 ∷ []
+
+pub named : map (λ (x : ℕ). 5 * x) doubled ≡ tenths
+named = refl
 
 -- two thirds of USBHS 320 MHz, two thirds of ETH 333,333,333 Hz
 pub two-thirds-of-usbhs : twoThirds 480000000 ≡ whole 320000000
