@@ -2,7 +2,6 @@ pub mod Tools
 pub mod Answer
 pub mod Said
 pub mod Tests
-pub mod Numbers
 pub mod Order
 pub mod Each
 pub mod Lists

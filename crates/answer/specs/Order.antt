@@ -2,7 +2,7 @@
 -- test that holds, and gives exactly where none does.
 -- Assumes nothing.
 use mathlib.Core.Path.{_≡_, _∙_, refl, sym, ap}
-use mathlib.Core.Bool.{Bool, true, false, cond, not, _&&_}
+use mathlib.Core.Bool.{Bool, true, false, cond, _&&_}
 use mathlib.Core.List.{List, [], _∷_, _++_}
 use Prim.Native.Nat.{ℕ, zero, suc}
 use Rattle.answer.specs.Answer.{Answer, gives, refuses, refuse, _>>=_, _>>_, gives-refuses, refuses-gives}
@@ -34,9 +34,6 @@ only b (t ∷ l) = (t .0, b && t .1) ∷ only b l
 
 pub order-gives : {A : Type 0} {x : A} → InOrder [] (gives x)
 order-gives = record { goes = refl }
-
-pub order-refuses : {A : Type 0} {n : ℕ} {l : List Test} → InOrder {A = A} ((n, true) ∷ l) (refuses n)
-order-refuses = record { goes = refl }
 
 pub order-refuse : (n : ℕ) (test : Bool) → InOrder ((n, test) ∷ []) (refuse n test)
 order-refuse n true = record { goes = refl }
@@ -76,28 +73,6 @@ pub order-behind : {A B : Type 0} {l : List Test} {k : A → List Test} (m : Ans
     InOrder (l ++ behind m k) (_>>=_ m f)
 order-behind {l = l} {k = k} (gives a) h g = record { goes = g a .goes ∙ sym (none-first l (k a) (sym (h .goes))) }
 order-behind {l = l} (refuses n) h g = record { goes = sym (some-first l [] (sym (h .goes))) }
-
-only-false : (l : List Test) → firstOf (only false l) ≡ gives tt
-only-false [] = refl
-only-false (t ∷ l) = only-false l
-
-only-true : (l k : List Test) → firstOf (only true l ++ k) ≡ firstOf (l ++ k)
-only-true [] k = refl
-only-true ((n, true) ∷ l) k = refl
-only-true ((n, false) ∷ l) k = only-true l k
-
-append-none : (l k : List Test) → firstOf k ≡ gives tt → firstOf (l ++ k) ≡ firstOf l
-append-none [] k e = e
-append-none ((n, true) ∷ l) k e = refl
-append-none ((n, false) ∷ l) k e = append-none l k e
-
--- a choice: the tests of one side only where b holds, those of the other only where it doesn't
-pub order-cond : {A : Type 0} {l k : List Test} {m p : Answer A} (b : Bool) → (b ≡ true → InOrder l m) → (b ≡ false → InOrder k p) →
-    InOrder (only b l ++ only (not b) k) (cond b m p)
-order-cond {l = l} {k = k} true h g =
-    record { goes = h refl .goes ∙ sym (append-none l (only false k) (only-false k)) ∙ sym (only-true l (only false k)) }
-order-cond {l = l} {k = k} false h g =
-    record { goes = g refl .goes ∙ sym (append-none k [] refl) ∙ sym (only-true k []) ∙ append-none (only true k) [] refl ∙ sym (none-first (only false l) (only true k) (only-false l)) }
 
 -- Where later tests speak of what an earlier part gives: m refuses by the first of them that holds, and else gives v.
 pub record OrElse {A : Type 0} (l : List Test) (v : A) (m : Answer A) : Type 0 where

@@ -1,8 +1,7 @@
 -- Laws of tests, choices and impossible equations that proofs of many crates use. Those of answers are in Answer.antt.
 -- Assumes nothing.
-use mathlib.Core.Path.{_≡_, _∙_, refl, sym}
+use mathlib.Core.Path.{_≡_, refl, sym}
 use mathlib.Core.Bool.{Bool, true, false, cond, _&&_, _||_}
-use mathlib.Core.List.{List, [], _∷_}
 use Prim.Native.Nat.{ℕ}
 use native.Mathlib.Omega.{arith}
 
@@ -14,12 +13,6 @@ true-false e = absurd (let z : _≡_ {A = ℕ} 0 1 = cc in omega arith)
 pub false-true : {P : Type 0} → false ≡ true → P
 false-true e = true-false (sym e)
 
-pub cons-nil : {A P : Type 0} {x : A} {l : List A} → x ∷ l ≡ [] → P
-cons-nil e = absurd (let z : _≡_ {A = ℕ} 0 1 = cc in omega arith)
-
-pub nil-cons : {A P : Type 0} {x : A} {l : List A} → [] ≡ x ∷ l → P
-nil-cons e = cons-nil (sym e)
-
 -- Cases of a test.
 
 pub cases : {P : Type 0} (b : Bool) → (b ≡ true → P) → (b ≡ false → P) → P
@@ -29,10 +22,6 @@ cases false h k = k refl
 pub by-cond : {A : Type 0} (P : A → Type 0) (b : Bool) (x y : A) → (b ≡ true → P x) → (b ≡ false → P y) → P (cond b x y)
 by-cond P true x y h k = h refl
 by-cond P false x y h k = k refl
-
-pub cond-same : {A : Type 0} (b : Bool) (x : A) → cond b x x ≡ x
-cond-same true x = refl
-cond-same false x = refl
 
 -- Two tests, joined by `&&` or `||`.
 
@@ -52,26 +41,9 @@ pub and-other : (a b : Bool) → (a && b) ≡ false → a ≡ true → b ≡ fal
 and-other true b e h = e
 and-other false b e h = false-true h
 
-pub or-left : (a b : Bool) → a ≡ true → (a || b) ≡ true
-or-left true b e = refl
-or-left false b e = false-true e
-
-pub or-right : (a b : Bool) → b ≡ true → (a || b) ≡ true
-or-right true b e = refl
-or-right false b e = e
-
 pub neither : (a b : Bool) → (a || b) ≡ false → (a ≡ false) × (b ≡ false)
 neither true b e = true-false e
 neither false b e = (refl, e)
-
--- one holds, and not the first, or not the second
-pub or-second : (a b : Bool) → (a || b) ≡ true → a ≡ false → b ≡ true
-or-second true b e h = true-false h
-or-second false b e h = e
-
-pub or-first : (a b : Bool) → (a || b) ≡ true → b ≡ false → a ≡ true
-or-first true b e h = refl
-or-first false b e h = true-false (sym e ∙ h)
 
 -- what follows from each follows from either
 pub either : {P : Type 0} (a b : Bool) → (a ≡ true → P) → (b ≡ true → P) → (a || b) ≡ true → P
