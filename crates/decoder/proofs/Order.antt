@@ -15,12 +15,12 @@ use Rattle.divider.specs.declared.Family.the-variants.{V4x7}
 use Rattle.divider.specs.declared.Frequency.{Frequency}
 use Rattle.divider.specs.Divide.{ahbDivisor}
 use Rattle.divider.specs.Frequency.{whole, over}
-use Rattle.tree.specs.Order.{clocksAt}
+use Rattle.tree.specs.Order.{noHse, hseHz, clocksAt}
 use Rattle.tree.specs.declared.HseFrequency.{HseFrequency}
 use Rattle.image.specs.declared.Fields.{Fields}
 use Rattle.image.specs.Image.{inWidths, inWidth}
 use Rattle.v4x7_rules.specs.Rules.{referenceCodeOf, twoThirds, sysPllOf, busesOf}
-use Rattle.v4x7_rules.specs.Plain.{outside, noHse, hseHz, allowed, referenceCode}
+use Rattle.v4x7_rules.specs.Plain.{outside, allowed, referenceCode}
 use Rattle.v4x7_rules.specs.Order.{used-hse-else, main-pll-else, eth-pll-else, reference-code-else, buses-else, adc-from-hclk-else, adc-from-usbhs-else}
 use Rattle.decoder.specs.Decode.{usbHsReferenceOf, usbHsPllOf, sysPllInputOf, inUseOf, decodeOf}
 use Rattle.decoder.specs.Queries.{adcRatioOf, adcQueryOf, rngQueryOf}

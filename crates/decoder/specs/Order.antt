@@ -11,7 +11,8 @@ use Rattle.divider.specs.Divide.{ahbDivisor}
 use Rattle.image.specs.declared.Fields.{Fields}
 use Rattle.image.specs.Image.{inWidth}
 use Rattle.tree.specs.declared.HseFrequency.{HseFrequency}
-use Rattle.v4x7_rules.specs.Plain.{outside, noHse, hseHz, mainPllHz, allowed, referenceCode, sysPllHz}
+use Rattle.tree.specs.Order.{noHse, hseHz}
+use Rattle.v4x7_rules.specs.Plain.{outside, mainPllHz, allowed, referenceCode, sysPllHz}
 
 -- the USBHS PLL's reference by its source: HSE, else 20 MHz
 abbrev pub referenceHz : ℕ → HseFrequency → ℕ

@@ -17,26 +17,12 @@ use Rattle.tree.specs.declared.HseFrequency.the-variants as hse
 use Rattle.tree.specs.declared.Output.{Output}
 use Rattle.tree.specs.declared.Output.the-variants as output
 use Rattle.tree.specs.Tree.{clocksOf}
-use Rattle.tree.specs.Order.{clocks-else}
+use Rattle.tree.specs.Order.{noHse, hseHz, noOutput, clocks-else}
 use Rattle.pll32.specs.declared.Part.{Part}
 use Rattle.pll32.specs.declared.Source.{Source}
 use Rattle.pll32.specs.declared.Source.the-variants as source
 use Rattle.pll32.specs.declared.Setting.{Setting}
 use Rattle.pll32.specs.Pll.{hsiOf, factor, tooWide, wideSetting, familyOf, neededHseOf, sourceFrequencyOf, multipliedOf, pllOutputOf, pllAsSysclkOf, sysclkOf, configuredClocksOf, decodedSysclkOf, decodedClocksOf}
-
--- The parts, and their numbers: those of an absent part are 0.
-
-abbrev pub noHse : HseFrequency → Bool
-noHse hse.Absent = true
-noHse (hse.Hz hz) = false
-
-abbrev pub hseHz : HseFrequency → ℕ
-hseHz hse.Absent = 0
-hseHz (hse.Hz hz) = hz
-
-abbrev pub noPll : Output → Bool
-noPll output.Absent = true
-noPll (output.At x) = false
 
 abbrev pub fromHse : Source → Bool
 fromHse source.Hsi = false
@@ -121,12 +107,12 @@ six-order part x sys ahb apb1 apb2 narrow =
 abbrev pub sysclkTests : HseFrequency → Bool → ℕ → List Test
 sysclkTests h absent sys = (20, eqb sys 3) ∷ (3, eqb sys 1 && noHse h) ∷ (26, eqb sys 2 && absent) ∷ []
 
-as-sysclk : (out : Output) → InOrder ((26, noPll out) ∷ []) (pllAsSysclkOf out)
+as-sysclk : (out : Output) → InOrder ((26, noOutput out) ∷ []) (pllAsSysclkOf out)
 as-sysclk output.Absent = record { goes = refl }
 as-sysclk (output.At x) = record { goes = refl }
 
 configured-order : (part : Part) (h : HseFrequency) (out : Output) (sys ahb apb1 apb2 : ℕ) →
-    InOrder ((28, tooWide sys ahb apb1 apb2) ∷ sysclkTests h (noPll out) sys) (configuredClocksOf part h out sys ahb apb1 apb2)
+    InOrder ((28, tooWide sys ahb apb1 apb2) ∷ sysclkTests h (noOutput out) sys) (configuredClocksOf part h out sys ahb apb1 apb2)
 unfolding configuredClocksOf sysclkOf
 configured-order part h out sys ahb apb1 apb2 =
     order-past 28 (tooWide sys ahb apb1 apb2) (λ narrow.
@@ -134,14 +120,14 @@ configured-order part h out sys ahb apb1 apb2 =
     order-map _ (clocksOf (familyOf part) x ahb apb1 apb2) (six-order part x sys ahb apb1 apb2 narrow)))
 
 -- once its codes are in their fields, and it is known whether a PLL is configured
-pub configured-where : (part : Part) (h : HseFrequency) (out : Output) (sys ahb apb1 apb2 : ℕ) {absent : Bool} → noPll out ≡ absent →
+pub configured-where : (part : Part) (h : HseFrequency) (out : Output) (sys ahb apb1 apb2 : ℕ) {absent : Bool} → noOutput out ≡ absent →
     tooWide sys ahb apb1 apb2 ≡ false → InOrder (sysclkTests h absent sys) (configuredClocksOf part h out sys ahb apb1 apb2)
 configured-where part h out sys ahb apb1 apb2 is narrow =
     subst (λ (b : Bool). InOrder (sysclkTests h b sys) (configuredClocksOf part h out sys ahb apb1 apb2)) is
     (order-skip narrow (configured-order part h out sys ahb apb1 apb2))
 
 abbrev pub configuredTests : HseFrequency → Output → ℕ → ℕ → ℕ → ℕ → List Test
-configuredTests h out sys ahb apb1 apb2 = codesTests sys ahb apb1 apb2 (sysclkTests h (noPll out) sys)
+configuredTests h out sys ahb apb1 apb2 = codesTests sys ahb apb1 apb2 (sysclkTests h (noOutput out) sys)
 
 pub configured-clocks-in-order : (part : Part) (h : HseFrequency) (out : Output) (sys ahb apb1 apb2 : ℕ) →
     bare (configuredClocksOf part h out sys ahb apb1 apb2) ≡ firstOf (configuredTests h out sys ahb apb1 apb2)

@@ -1,6 +1,8 @@
--- The order of the tree's refusals: 28 for each code, and the six clocks as plain numbers where none is too wide.
+-- For the lists of refusals: HSE, a PLL's output and the six clocks as plain numbers, 0 for what is not there; and the order of the tree's own
+-- refusals, 28 for each code.
 -- Assumes nothing.
 use mathlib.Core.Path.{refl, ap}
+use mathlib.Core.Bool.{Bool, true, false}
 use mathlib.Core.List.{List, [], _∷_}
 use Prim.Native.Nat.{ℕ}
 use lib.Dec.{leb}
@@ -11,7 +13,27 @@ use Rattle.divider.specs.Divide.{ahbDivisor, apbDivisor}
 use Rattle.divider.specs.Frequency.{over}
 use Rattle.divider.specs.Laws.{by-ahb-else, apb-quotient-else}
 use Rattle.tree.specs.declared.Clocks.{Clocks}
+use Rattle.tree.specs.declared.HseFrequency.{HseFrequency}
+use Rattle.tree.specs.declared.HseFrequency.the-variants as hse
+use Rattle.tree.specs.declared.Output.{Output}
+use Rattle.tree.specs.declared.Output.the-variants as output
 use Rattle.tree.specs.Tree.{timerClock, busOf, belowOf, clocksOf}
+
+abbrev pub noHse : HseFrequency → Bool
+noHse hse.Absent = true
+noHse (hse.Hz hz) = false
+
+abbrev pub hseHz : HseFrequency → ℕ
+hseHz hse.Absent = 0
+hseHz (hse.Hz hz) = hz
+
+abbrev pub noOutput : Output → Bool
+noOutput output.Absent = true
+noOutput (output.At x) = false
+
+abbrev pub outputHz : Output → ℕ
+outputHz output.Absent = 0
+outputHz (output.At x) = x .hz
 
 -- a bus: PCLK, and its timers' clock
 abbrev pub busAt : Family → Frequency → ℕ → Frequency × ℕ

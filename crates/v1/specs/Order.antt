@@ -12,11 +12,12 @@ use Rattle.answer.specs.Lists.{order-either, order-under, order-skip, order-map
 use Rattle.tree.specs.declared.HseFrequency.{HseFrequency}
 use Rattle.tree.specs.declared.Output.{Output}
 use Rattle.tree.specs.declared.Output.the-variants as output
+use Rattle.tree.specs.Order.{noHse, hseHz, noOutput}
 use Rattle.pll32.specs.declared.Part.{Part}
 use Rattle.pll32.specs.declared.Source.{Source}
 use Rattle.pll32.specs.declared.Source.the-variants as from
 use Rattle.pll32.specs.Pll.{hseFrequencyOf, tooWide, factor, pllOutputOf}
-use Rattle.pll32.specs.Order.{noHse, hseHz, noPll, fromHse, sourceHz, over32, pll-order, codesTests, codes-order, configured-where, decoded-clocks-in-order}
+use Rattle.pll32.specs.Order.{fromHse, sourceHz, over32, pll-order, codesTests, codes-order, configured-where, decoded-clocks-in-order}
 use Rattle.v1.specs.declared.Chip.{Chip}
 use Rattle.v1.specs.declared.PllPreDiv.{PllPreDiv}
 use Rattle.v1.specs.declared.PllPreDiv.the-variants.{Div1, Div2}
@@ -73,11 +74,11 @@ pll-part part h source (pll.Present Div2 mul) narrow =
     order-map output.At (pllOutputOf part h (settingOf source Div2 mul)) (order-skip narrow (pll-order part h (settingOf source Div2 mul)))
 
 -- there is an output where a PLL is configured
-pll-there : (part : Part) (h : HseFrequency) (source : Source) (p : Pll) {out : Output} → configuredPllOf part h source p ≡ gives out → noPll out ≡ not (hasPll p)
+pll-there : (part : Part) (h : HseFrequency) (source : Source) (p : Pll) {out : Output} → configuredPllOf part h source p ≡ gives out → noOutput out ≡ not (hasPll p)
 unfolding configuredPllOf
-pll-there part h source pll.Absent e = subst (λ (o : Output). noPll o ≡ true) (same-given e) refl
+pll-there part h source pll.Absent e = subst (λ (o : Output). noOutput o ≡ true) (same-given e) refl
 pll-there part h source (pll.Present prediv mul) e =
-    subst (λ (o : Output). noPll o ≡ false) (same-given (bound (pllOutputOf part h (settingOf source prediv mul)) _ e .after)) refl
+    subst (λ (o : Output). noOutput o ≡ false) (same-given (bound (pllOutputOf part h (settingOf source prediv mul)) _ e .after)) refl
 
 wide-pll : (p : Pll) → widePll p ≡ leb 16 (mulCode p)
 wide-pll pll.Absent = refl

@@ -13,11 +13,12 @@ use Rattle.divider.specs.Frequency.{over}
 use Rattle.tree.specs.declared.HseFrequency.{HseFrequency}
 use Rattle.tree.specs.declared.Output.{Output}
 use Rattle.tree.specs.declared.Output.the-variants as output
+use Rattle.tree.specs.Order.{noHse, hseHz, noOutput}
 use Rattle.pll32.specs.declared.Part.the-variants as part
 use Rattle.pll32.specs.declared.Source.{Source}
 use Rattle.pll32.specs.declared.Source.the-variants as from
 use Rattle.pll32.specs.Pll.{hseFrequencyOf, tooWide, wideSetting, factor, pllOutputOf}
-use Rattle.pll32.specs.Order.{noHse, hseHz, noPll, fromHse, sourceHz, over32, source-else, pll-order, codesTests, codes-order, configured-where, decoded-order}
+use Rattle.pll32.specs.Order.{fromHse, sourceHz, over32, source-else, pll-order, codesTests, codes-order, configured-where, decoded-order}
 use Rattle.v30x.specs.declared.PllSource.{PllSource}
 use Rattle.v30x.specs.declared.PllSource.the-variants as source
 use Rattle.v30x.specs.declared.Pll.{Pll}
@@ -130,26 +131,26 @@ usbhs-part h s (hspll.Present pre) =
     order-else (source-else s h) (λ x e. rw e (order-refuse 8 (not (referenceAllowed (sourceHz s h / (pre + 1))))))
 
 -- there is an output where a PLL is configured
-fed-there : (h : HseFrequency) (s : Source) (prediv mul : ℕ) {out : Output} → pllFromOscillatorOf h s prediv mul ≡ gives out → noPll out ≡ false
+fed-there : (h : HseFrequency) (s : Source) (prediv mul : ℕ) {out : Output} → pllFromOscillatorOf h s prediv mul ≡ gives out → noOutput out ≡ false
 unfolding pllFromOscillatorOf
 fed-there h s prediv mul e =
     let made = bound (pllOutputOf part.V30x h (settingOf s prediv mul)) _ e in
     let tested = passed 25 (fromHsi s && leb 2 prediv) (gives (output.At (made .value))) (made .after) in
-    subst (λ (o : Output). noPll o ≡ false) (same-given (tested .after)) refl
+    subst (λ (o : Output). noOutput o ≡ false) (same-given (tested .after)) refl
 
-pll-there : (h : HseFrequency) (s : PllSource) (p : Pll) {out : Output} → configuredPllOf h s p ≡ gives out → noPll out ≡ not (hasPll p)
+pll-there : (h : HseFrequency) (s : PllSource) (p : Pll) {out : Output} → configuredPllOf h s p ≡ gives out → noOutput out ≡ not (hasPll p)
 unfolding configuredPllOf
-pll-there h s pll.Absent e = subst (λ (o : Output). noPll o ≡ true) (same-given e) refl
+pll-there h s pll.Absent e = subst (λ (o : Output). noOutput o ≡ true) (same-given e) refl
 pll-there h source.Hsi (pll.Present prediv mul) e = fed-there h from.Hsi prediv mul e
 pll-there h source.Hse (pll.Present prediv mul) e = fed-there h from.Hse prediv mul e
 pll-there h source.Pll2 (pll.Present prediv mul) e = refuses-gives e
 
-sources-there : (h : HseFrequency) (c : Config) {out : Output} → sourcesOf h c ≡ gives out → noPll out ≡ not (hasPll (c .pll))
+sources-there : (h : HseFrequency) (c : Config) {out : Output} → sourcesOf h c ≡ gives out → noOutput out ≡ not (hasPll (c .pll))
 unfolding sourcesOf
 sources-there h c e =
     let main = bound (configuredPllOf h (c .«pll_src») (c .pll)) _ (passed 27 (pllxPresent (c .pllx)) _ e .after) in
     let usbhs = followed (usbhsOf h (c .«hspll_src») (c .hspll)) _ (main .after) in
-    subst (λ (o : Output). noPll o ≡ not (hasPll (c .pll))) (same-given (usbhs .after)) (pll-there h (c .«pll_src») (c .pll) (main .gave))
+    subst (λ (o : Output). noOutput o ≡ not (hasPll (c .pll))) (same-given (usbhs .after)) (pll-there h (c .«pll_src») (c .pll) (main .gave))
 
 wide-pll : (p : Pll) → widePll p ≡ (leb 16 (predivCode p) || leb 16 (mulCode p))
 wide-pll pll.Absent = refl

@@ -15,11 +15,11 @@ use Rattle.divider.specs.declared.Family.the-variants.{V4x7}
 use Rattle.divider.specs.declared.Frequency.{Frequency}
 use Rattle.divider.specs.Divide.{apbDivisor}
 use Rattle.divider.specs.Frequency.{whole, over}
-use Rattle.tree.specs.Order.{clocksAt}
+use Rattle.tree.specs.Order.{noHse, hseHz, clocksAt}
 use Rattle.tree.specs.declared.Output.{Output}
 use Rattle.tree.specs.declared.Output.the-variants as output
 use Rattle.v4x7_rules.specs.Rules.{hseInRange, usedHseOf, referenceCodeOf, twoThirds, sysPllOf, busesOf}
-use Rattle.v4x7_rules.specs.Plain.{outside, noHse, hseHz, mainPllHz, allowed, sysPllHz}
+use Rattle.v4x7_rules.specs.Plain.{outside, mainPllHz, allowed, sysPllHz}
 use Rattle.v4x7_rules.specs.Order.{used-hse-else, main-pll-else, eth-pll-else, reference-code-else, buses-else, adc-from-hclk-else, adc-from-usbhs-else}
 use Rattle.v4x7.specs.declared.Hse.{Hse}
 use Rattle.v4x7.specs.declared.Hse.the-variants as hse

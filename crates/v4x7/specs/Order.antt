@@ -8,7 +8,8 @@ use lib.ListN.{getD}
 use Rattle.answer.specs.Order.{Test}
 use Rattle.divider.specs.declared.Family.the-variants.{V4x7}
 use Rattle.divider.specs.Divide.{ahbDivisor, apbDivisor}
-use Rattle.v4x7_rules.specs.Plain.{outside, hseHz, mainPllHz, allowed, sysPllHz}
+use Rattle.tree.specs.Order.{hseHz}
+use Rattle.v4x7_rules.specs.Plain.{outside, mainPllHz, allowed, sysPllHz}
 use Rattle.v4x7.specs.declared.Pll.{Pll}
 use Rattle.v4x7.specs.declared.Pll.the-variants as pll
 use Rattle.v4x7.specs.declared.HsPll.{HsPll}

@@ -18,9 +18,9 @@ use Rattle.tree.specs.declared.HseFrequency.{HseFrequency}
 use Rattle.tree.specs.declared.HseFrequency.the-variants as hse
 use Rattle.tree.specs.declared.Output.{Output}
 use Rattle.tree.specs.declared.Output.the-variants as output
-use Rattle.tree.specs.Order.{clocksAt, clocks-else}
+use Rattle.tree.specs.Order.{noHse, hseHz, noOutput, outputHz, clocksAt, clocks-else}
 use Rattle.v4x7_rules.specs.Rules.{hseInRange, usedHseOf, mainPllInput, mainPllOf, ethPllOf, referenceCodeOf, twoThirds, sysPllOf, busesOf, totalOf, adcFromHclkOf, adcFromUsbHsOf}
-use Rattle.v4x7_rules.specs.Plain.{outside, noHse, hseHz, mainPllHz, allowed, referenceCode, noOutput, outputHz, sysPllHz}
+use Rattle.v4x7_rules.specs.Plain.{outside, mainPllHz, allowed, referenceCode, sysPllHz}
 
 -- HSE needed: 3, then 4
 abbrev pub usedHseTests : HseFrequency → List Test

@@ -1,26 +1,16 @@
 -- The V4x7 rules' numbers, for the lists of refusals: plain, and 0 for what is not there.
 -- Assumes nothing.
-use mathlib.Core.Bool.{Bool, true, false, cond, _||_}
+use mathlib.Core.Bool.{Bool, cond, _||_}
 use mathlib.Core.List.{[], _∷_}
 use Prim.Native.Nat.{ℕ, _*_, _/_}
 use lib.Dec.{ltb, eqb}
 use lib.ListN.{getD}
 use Rattle.tree.specs.declared.HseFrequency.{HseFrequency}
-use Rattle.tree.specs.declared.HseFrequency.the-variants as hse
-use Rattle.tree.specs.declared.Output.{Output}
-use Rattle.tree.specs.declared.Output.the-variants as output
+use Rattle.tree.specs.Order.{hseHz}
 use Rattle.v4x7_rules.specs.Rules.{doubled}
 
 abbrev pub outside : ℕ → ℕ → ℕ → Bool
 outside low high n = ltb n low || ltb high n
-
-abbrev pub noHse : HseFrequency → Bool
-noHse hse.Absent = true
-noHse (hse.Hz hz) = false
-
-abbrev pub hseHz : HseFrequency → ℕ
-hseHz hse.Absent = 0
-hseHz (hse.Hz hz) = hz
 
 -- the main PLL: HSE where the source bit is set, else HSI, by the doubled multiplier; the product first
 abbrev pub mainPllHz : HseFrequency → Bool → ℕ → ℕ
@@ -34,13 +24,5 @@ abbrev pub referenceCode : ℕ → ℕ
 referenceCode hz = cond (eqb hz 25000000) 0 (cond (eqb hz 20000000) 1 (cond (eqb hz 24000000) 2 3))
 
 -- SYSPLL's sources: USBHS 480 MHz, ETH 500 MHz, two thirds of USBHS 320 MHz, two thirds of ETH 333,333,333 Hz, else main PLL
-abbrev pub noOutput : Output → Bool
-noOutput output.Absent = true
-noOutput (output.At main) = false
-
-abbrev pub outputHz : Output → ℕ
-outputHz output.Absent = 0
-outputHz (output.At main) = main .hz
-
 abbrev pub sysPllHz : ℕ → ℕ → ℕ
 sysPllHz source main = getD (480000000 ∷ 500000000 ∷ 320000000 ∷ 333333333 ∷ []) source main
