@@ -1,12 +1,11 @@
 -- A call's number and bytes, by the way that it took. Assumes nothing.
 use Prim.Native.Nat.{ℕ, _≤_, _<_}
-use mathlib.Core.Path.{_≡_, sym, ap, _∙_}
+use mathlib.Core.Path.{_≡_, sym}
 use mathlib.Core.List.{List, _++_}
 use borrow.Author.Tests.{lt-ltb, le-ltb}
 use lib.ListN.{length, drop}
 use Rattle.answer.specs.Answer.{Answer, gives, refuses}
-use Rattle.layout.specs.Lent.{written, after}
-use Rattle.capi_give.specs.Given.{numberIn, Given}
+use Rattle.capi_give.specs.Given.{Given}
 
 module _ (n : ℕ) (m : Answer (List ℕ)) (l : List ℕ) where
   -- 32: nothing was touched
@@ -26,14 +25,4 @@ module _ (n : ℕ) (m : Answer (List ℕ)) (l : List ℕ) where
 
   -- a call that gave these bytes gave the record
   pub passed-on : (xs l′ : List ℕ) (r : ℕ) → length xs ≡ n → m ≡ gives xs → Given (length xs) (gives xs) l l′ r → Given n m l l′ r
-  passed-on xs l′ r e q g = record {
-    number = g .number ∙ ap (λ (k : ℕ). numberIn (written k (gives xs) l)) e ∙ ap (λ (x : Answer (List ℕ)). numberIn (written n x l)) (sym q);
-    lent = g .lent ∙ ap (λ (k : ℕ). after l (written k (gives xs) l)) e ∙ ap (λ (x : Answer (List ℕ)). after l (written n x l)) (sym q);
-  }
-
-  -- a call that gave another record gave this one, where they are the same
-  pub carried : (m′ : Answer (List ℕ)) (l′ : List ℕ) (r : ℕ) → Given n m′ l l′ r → m ≡ m′ → Given n m l l′ r
-  carried m′ l′ r g q = record {
-    number = g .number ∙ ap (λ (x : Answer (List ℕ)). numberIn (written n x l)) (sym q);
-    lent = g .lent ∙ ap (λ (x : Answer (List ℕ)). after l (written n x l)) (sym q);
-  }
+  passed-on xs l′ r e q g = rw (sym e, q) g

@@ -9,17 +9,12 @@ returns-2 : tie.Need-returns-2
 unfolding waitsRead
 returns-2 c =
     let at-config = c .before .before in
-    let at-read-profile = at-config .before .before in
-    simp (told readProfileSays (at-read-profile .read-profile .ensures) (at-config .config .given .1), (c .waits-owed .ensures))
+    simp (told readProfileSays (at-config .before .before .read-profile .ensures) (at-config .config .given .1), (c .waits-owed .ensures))
 
 pub waits-spec : {M : Type 1} → statement M
 unfolding waitsRead
 waits-spec =
     tie.close
-    (tie.spec
-    (search needs)
-    (search needs)
-    (search needs)
-    (search needs)
+    (tie.spec (search needs) (search needs) (search needs) (search needs)
     (λ c. simp (told readProfileSays (c .before .before .before .read-profile .ensures) (c .before .number .given .1)))
     returns-2)

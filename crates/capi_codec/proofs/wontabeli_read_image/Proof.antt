@@ -9,33 +9,11 @@ use Rattle.capi_codec.proofs.Making.{all-loaded}
 use Rattle.capi_codec.proofs.wontabeli_read_image.Statement.{statement}
 use Rattle.capi_codec.proofs.wontabeli_read_image.Tie as tie
 
-returns : tie.Need-returns
-returns c = short _ _ _ (c .if1 .taken)
-
-read-image-requires : tie.Need-read-image-requires
-read-image-requires c κs = search needs
-
-enum-known-n : tie.Need-enum-known-n
-enum-known-n c = search needs
-
-enum-told : tie.Need-enum-told
-enum-told c = search needs
-
-slice-aggregate-load : tie.Need-slice-aggregate-load
-slice-aggregate-load c = search needs
-
-load-requires : tie.Need-load-requires
-load-requires c κs = search needs
-
 returns-2 : tie.Need-returns-2
 unfolding imageFields
 returns-2 c =
     let at-read-image = c .before .before .before in
-    let at-if1 = at-read-image .before in
-    refused _ _ _ _ (at-if1 .if1 .left) (rw (told readImageSays (at-read-image .read-image .ensures) (c .before .n .given .1)) refl)
-
-same-length : tie.Need-same-length
-same-length c = search needs
+    refused _ _ _ _ (at-read-image .before .if1 .left) (rw (told readImageSays (at-read-image .read-image .ensures) (c .before .n .given .1)) refl)
 
 returns-3 : tie.Need-returns-3
 unfolding imageFields
@@ -52,4 +30,6 @@ returns-3 c =
 pub wontabeli-read-image-spec : {M : Type 1} → statement M
 wontabeli-read-image-spec =
     tie.close
-    (tie.spec returns read-image-requires enum-known-n enum-told slice-aggregate-load load-requires returns-2 same-length returns-3)
+    (tie.spec (λ c. short _ _ _ (c .if1 .taken))
+    (λ c κs. search needs) (λ c. search needs) (λ c. search needs) (λ c. search needs) (λ c κs. search needs) returns-2 (λ c. search needs)
+    returns-3)

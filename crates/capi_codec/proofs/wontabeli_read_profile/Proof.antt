@@ -9,33 +9,12 @@ use Rattle.capi_codec.proofs.Making.{all-loaded}
 use Rattle.capi_codec.proofs.wontabeli_read_profile.Statement.{statement}
 use Rattle.capi_codec.proofs.wontabeli_read_profile.Tie as tie
 
-returns : tie.Need-returns
-returns c = short _ _ _ (c .if1 .taken)
-
-read-profile-requires : tie.Need-read-profile-requires
-read-profile-requires c κs = search needs
-
-enum-known-n : tie.Need-enum-known-n
-enum-known-n c = search needs
-
-enum-told : tie.Need-enum-told
-enum-told c = search needs
-
-slice-aggregate-load : tie.Need-slice-aggregate-load
-slice-aggregate-load c = search needs
-
-load-requires : tie.Need-load-requires
-load-requires c κs = search needs
-
 returns-2 : tie.Need-returns-2
 unfolding profileFields
 returns-2 c =
     let at-read-profile = c .before .before .before in
     let at-if1 = at-read-profile .before in
     refused _ _ _ _ (at-if1 .if1 .left) (rw (told readProfileSays (at-read-profile .read-profile .ensures) (c .before .n .given .1)) refl)
-
-same-length : tie.Need-same-length
-same-length c = search needs
 
 returns-3 : tie.Need-returns-3
 unfolding profileFields
@@ -52,4 +31,6 @@ returns-3 c =
 pub wontabeli-read-profile-spec : {M : Type 1} → statement M
 wontabeli-read-profile-spec =
     tie.close
-    (tie.spec returns read-profile-requires enum-known-n enum-told slice-aggregate-load load-requires returns-2 same-length returns-3)
+    (tie.spec (λ c. short _ _ _ (c .if1 .taken))
+    (λ c κs. search needs) (λ c. search needs) (λ c. search needs) (λ c. search needs) (λ c κs. search needs) returns-2 (λ c. search needs)
+    returns-3)

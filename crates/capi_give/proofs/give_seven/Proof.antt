@@ -4,12 +4,6 @@ use Rattle.capi_give.specs.Giving.{short, refused, passed-on}
 use Rattle.capi_give.proofs.give_seven.Statement.{statement}
 use Rattle.capi_give.proofs.give_seven.Tie as tie
 
-returns : tie.Need-returns
-returns c = short _ _ _ (c .if1 .taken)
-
-returns-2 : tie.Need-returns-2
-returns-2 c = refused _ _ _ _ (c .before .before .before .if1 .left) (rw (c .before .answer .given .1) refl)
-
 returns-3 : tie.Need-returns-3
 returns-3 c =
     let at-give = c .before .before in
@@ -19,4 +13,6 @@ returns-3 c =
 pub give-seven-spec : {M : Type 1} → statement M
 give-seven-spec =
     tie.close
-    (tie.spec returns (search needs) (search needs) (search needs) (search needs) returns-2 (search needs) returns-3)
+    (tie.spec (λ c. short _ _ _ (c .if1 .taken)) (search needs) (search needs) (search needs) (search needs)
+    (λ c. refused _ _ _ _ (c .before .before .before .if1 .left) (rw (c .before .answer .given .1) refl))
+    (search needs) returns-3)

@@ -11,9 +11,8 @@ unfolding startRead
 returns-2 c =
     let at-read-image = c .before .before .before in
     let at-config = at-read-image .before .before in
-    let at-read-profile = at-config .before .before in
     simp (
-      told readProfileSays (at-read-profile .read-profile .ensures) (at-config .config .given .1),
+      told readProfileSays (at-config .before .before .read-profile .ensures) (at-config .config .given .1),
       told readImageSays (at-read-image .read-image .ensures) (c .before .n2 .given .1),
     )
 
@@ -23,9 +22,8 @@ returns-3 c =
     let at-fields = c .before .before in
     let at-read-image = at-fields .before .before in
     let at-config = at-read-image .before .before in
-    let at-read-profile = at-config .before .before in
     simp (
-      told readProfileSays (at-read-profile .read-profile .ensures) (at-config .config .given .1),
+      told readProfileSays (at-config .before .before .read-profile .ensures) (at-config .config .given .1),
       told readImageSays (at-read-image .read-image .ensures) (at-fields .fields .given .1),
     ) (c .start .ensures)
 
@@ -33,14 +31,6 @@ pub begin-spec : {M : Type 1} → statement M
 unfolding startRead
 begin-spec =
     tie.close
-    (tie.spec
-    (search needs)
-    (search needs)
-    (search needs)
-    (search needs)
-    (search needs)
-    (search needs)
-    (search needs)
+    (tie.spec (search needs) (search needs) (search needs) (search needs) (search needs) (search needs) (search needs)
     (λ c. simp (told readProfileSays (c .before .before .before .read-profile .ensures) (c .before .n .given .1)))
-    returns-2
-    returns-3)
+    returns-2 returns-3)

@@ -8,9 +8,8 @@ unfolding configOf
 returns c =
     let config-hse = c .before .before .before .before .before .before .before .before .before .before .config-hse in
     let hse-hz = c .before .before .before .before .before .before .before .before .before .before .before .hse-hz in
-    let source-of = c .before .before .before .before .before .before .before .source-of in
     let pll = c .before .before .before .pll in
-    rw (config-hse .ensures, hse-hz .ensures, source-of .ensures, pll .ensures)
+    rw (config-hse .ensures, hse-hz .ensures, c .before .before .before .before .before .before .before .source-of .ensures, pll .ensures)
 
 pub config-of-spec : {M : Type 1} → statement M
 config-of-spec =

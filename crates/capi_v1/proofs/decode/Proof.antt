@@ -8,22 +8,18 @@ use Rattle.capi_v1.proofs.decode.Tie as tie
 returns-2 : tie.Need-returns-2
 unfolding decodeRead
 returns-2 c =
-    let if1 = c .before .before .before .before .if1 in
     let take-fields = c .before .before .before .take-fields in
-    simp (le-ltb _ _ (if1 .left), told takenFieldsSays (take-fields .ensures) (c .before .n .given .1))
+    simp (le-ltb _ _ (c .before .before .before .before .if1 .left), told takenFieldsSays (take-fields .ensures) (c .before .n .given .1))
 
 returns-3 : tie.Need-returns-3
 unfolding decodeRead
 returns-3 c =
-    let if1 = c .before .before .before .before .before .before .before .if1 in
-    let take-fields = c .before .before .before .before .before .before .take-fields in
     let fields = c .before .before .before .before .f in
-    let chip = c .before .before .chip in
     simp (
-      le-ltb _ _ (if1 .left),
-      told takenFieldsSays (take-fields .ensures) (fields .given .1),
+      le-ltb _ _ (c .before .before .before .before .before .before .before .if1 .left),
+      told takenFieldsSays (c .before .before .before .before .before .before .take-fields .ensures) (fields .given .1),
       c .decode .ensures,
-      chip .ensures,
+      c .before .before .chip .ensures,
       c .before .decoder-hse .ensures,
     )
 

@@ -8,35 +8,27 @@ use Rattle.capi_v1.proofs.init_fields.Tie as tie
 returns-2 : tie.Need-returns-2
 unfolding initRead
 returns-2 c =
-    let if1 = c .before .before .before .before .if1 in
     let take-config = c .before .before .before .take-config in
-    simp (le-ltb _ _ (if1 .left), told takenConfigSays (take-config .ensures) (c .before .n .given .1))
+    simp (le-ltb _ _ (c .before .before .before .before .if1 .left), told takenConfigSays (take-config .ensures) (c .before .n .given .1))
 
 returns-3 : tie.Need-returns-3
 unfolding initRead
 returns-3 c =
-    let if1 = c .before .before .before .before .before .before .before .before .if1 in
-    let take-config = c .before .before .before .before .before .before .before .take-config in
     let config = c .before .before .before .before .before .c in
-    let take-fields = c .before .before .before .take-fields in
     simp (
-      le-ltb _ _ (if1 .left),
-      told takenConfigSays (take-config .ensures) (config .given .1),
-      told takenFieldsSays (take-fields .ensures) (c .before .n2 .given .1),
+      le-ltb _ _ (c .before .before .before .before .before .before .before .before .if1 .left),
+      told takenConfigSays (c .before .before .before .before .before .before .before .take-config .ensures) (config .given .1),
+      told takenFieldsSays (c .before .before .before .take-fields .ensures) (c .before .n2 .given .1),
     )
 
 returns-4 : tie.Need-returns-4
 unfolding initRead
 returns-4 c =
-    let if1 = c .before .before .before .before .before .before .before .before .before .before .if1 in
-    let take-config = c .before .before .before .before .before .before .before .before .before .take-config in
     let config = c .before .before .before .before .before .before .before .c in
-    let take-fields = c .before .before .before .before .before .take-fields in
-    let fields = c .before .before .before .f in
     simp (
-      le-ltb _ _ (if1 .left),
-      told takenConfigSays (take-config .ensures) (config .given .1),
-      told takenFieldsSays (take-fields .ensures) (fields .given .1),
+      le-ltb _ _ (c .before .before .before .before .before .before .before .before .before .before .if1 .left),
+      told takenConfigSays (c .before .before .before .before .before .before .before .before .before .take-config .ensures) (config .given .1),
+      told takenFieldsSays (c .before .before .before .before .before .take-fields .ensures) (c .before .before .before .f .given .1),
       c .init-fields .ensures,
       c .before .chip .ensures,
     )

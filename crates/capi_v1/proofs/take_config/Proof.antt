@@ -8,9 +8,8 @@ use Rattle.capi_v1.proofs.take_config.Tie as tie
 returns-3 : tie.Need-returns-3
 unfolding readConfig
 returns-3 c =
-    let if1 = c .before .before .before .if1 in
     let config-allowed = c .before .before .config-allowed in
-    simp (eq-eqb _ _ (if1 .left), sym (config-allowed .ensures), c .before .if2 .left, sym (c .config-of .ensures))
+    simp (eq-eqb _ _ (c .before .before .before .if1 .left), sym (config-allowed .ensures), c .before .if2 .left, sym (c .config-of .ensures))
 
 pub take-config-spec : {M : Type 1} → statement M
 unfolding readConfig

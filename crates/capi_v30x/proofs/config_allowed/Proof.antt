@@ -6,9 +6,8 @@ use Rattle.capi_v30x.proofs.config_allowed.Tie as tie
 returns : tie.Need-returns
 unfolding configAllowed
 returns c =
-    let hse-allowed = c .before .before .hse-allowed in
     let hse-hz = c .before .before .before .hse-hz in
-    rw (hse-allowed .ensures, hse-hz .ensures, c .before .pll-allowed .ensures, c .usbhs-allowed .ensures)
+    rw (c .before .before .hse-allowed .ensures, hse-hz .ensures, c .before .pll-allowed .ensures, c .usbhs-allowed .ensures)
 
 pub config-allowed-spec : {M : Type 1} → statement M
 config-allowed-spec = tie.close (tie.spec (search needs) (search needs) (search needs) (search needs) (search needs) (search needs) returns)

@@ -7,10 +7,8 @@ use Rattle.capi_v30x.proofs.decode.Tie as tie
 returns-2 : tie.Need-returns-2
 unfolding decodeRead
 returns-2 c =
-    let take-fields = c .before .before .before .before .before .take-fields in
-    let fields = c .before .before .before .f in
     simp (
-      told takenFieldsSays (take-fields .ensures) (fields .given .1),
+      told takenFieldsSays (c .before .before .before .before .before .take-fields .ensures) (c .before .before .before .f .given .1),
       c .decode .ensures,
       c .before .decoder-hse .ensures,
     )

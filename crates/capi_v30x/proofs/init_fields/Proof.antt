@@ -7,24 +7,19 @@ use Rattle.capi_v30x.proofs.init_fields.Tie as tie
 returns-2 : tie.Need-returns-2
 unfolding initRead
 returns-2 c =
-    let take-config = c .before .before .before .before .before .before .before .take-config in
     let config = c .before .before .before .before .before .c in
-    let take-fields = c .before .before .before .take-fields in
     simp (
-      told takenConfigSays (take-config .ensures) (config .given .1),
-      told takenFieldsSays (take-fields .ensures) (c .before .n2 .given .1),
+      told takenConfigSays (c .before .before .before .before .before .before .before .take-config .ensures) (config .given .1),
+      told takenFieldsSays (c .before .before .before .take-fields .ensures) (c .before .n2 .given .1),
     )
 
 returns-3 : tie.Need-returns-3
 unfolding initRead
 returns-3 c =
-    let take-config = c .before .before .before .before .before .before .before .before .take-config in
     let config = c .before .before .before .before .before .before .c in
-    let take-fields = c .before .before .before .before .take-fields in
-    let fields = c .before .before .f in
     simp (
-      told takenConfigSays (take-config .ensures) (config .given .1),
-      told takenFieldsSays (take-fields .ensures) (fields .given .1),
+      told takenConfigSays (c .before .before .before .before .before .before .before .before .take-config .ensures) (config .given .1),
+      told takenFieldsSays (c .before .before .before .before .take-fields .ensures) (c .before .before .f .given .1),
       c .init-fields .ensures,
     )
 

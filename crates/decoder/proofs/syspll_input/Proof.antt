@@ -10,24 +10,20 @@ use Rattle.decoder.proofs.syspll_input.Tie as tie
 returns : tie.Need-returns
 unfolding sysPllInputOf
 returns c =
-    let if1 = c .before .before .before .before .if1 in
-    let usbhs-pll = c .before .before .before .usbhs-pll in
-    simp (if1 .taken, told outcomeSays (usbhs-pll .ensures) (c .before .n .given .1))
+    simp (c .before .before .before .before .if1 .taken, told outcomeSays (c .before .before .before .usbhs-pll .ensures) (c .before .n .given .1))
 
 returns-2 : tie.Need-returns-2
 unfolding sysPllInputOf
 returns-2 c =
     let if1 = c .before .before .before .before .if1 in
-    let usbhs-pll = c .before .before .before .usbhs-pll in
-    simp (if1 .taken, told outcomeSays (usbhs-pll .ensures) (c .before .enum-told .given .1), c .syspll-input .ensures)
+    simp (if1 .taken, told outcomeSays (c .before .before .before .usbhs-pll .ensures) (c .before .enum-told .given .1), c .syspll-input .ensures)
 
 returns-3 : tie.Need-returns-3
 unfolding sysPllInputOf
 returns-3 c =
-    let if1 = c .before .before .before .before .before .if1 in
     let if2 = c .before .before .before .before .if2 in
     let eth-pll = c .before .before .before .eth-pll in
-    simp (if1 .left, if2 .taken, told outcomeSays (eth-pll .ensures) (c .before .n2 .given .1))
+    simp (c .before .before .before .before .before .if1 .left, if2 .taken, told outcomeSays (eth-pll .ensures) (c .before .n2 .given .1))
 
 returns-4 : tie.Need-returns-4
 unfolding sysPllInputOf
@@ -43,8 +39,7 @@ returns-5 c =
     let if1 = c .before .before .before .before .before .before .if1 in
     let if2 = c .before .before .before .before .before .if2 in
     let if3 = c .before .before .before .before .if3 in
-    let main-pll = c .before .before .before .main-pll in
-    simp (if1 .left, if2 .left, eq-eqb _ _ (if3 .taken), told rateSays (main-pll .ensures) (c .before .n3 .given .1))
+    simp (if1 .left, if2 .left, eq-eqb _ _ (if3 .taken), told rateSays (c .before .before .before .main-pll .ensures) (c .before .n3 .given .1))
 
 returns-6 : tie.Need-returns-6
 unfolding sysPllInputOf

@@ -8,9 +8,8 @@ use Rattle.divider.proofs.apb_quotient.Tie as tie
 
 divided-requires : tie.Need-divided-requires
 divided-requires c κs =
-    let args = c .before .before .before .before .args in
     let apb = c .before .before .before .apb in
-    apb-given (args .code) (told replySays (apb .ensures) (c .before .d .given .1)) .low
+    apb-given (c .before .before .before .before .args .code) (told replySays (apb .ensures) (c .before .d .given .1)) .low
 
 returns : tie.Need-returns
 unfolding apbQuotientOf
@@ -18,8 +17,7 @@ returns c = rw (told replySays (c .before .before .before .apb .ensures) (c .bef
 
 returns-2 : tie.Need-returns-2
 unfolding apbQuotientOf
-returns-2 c =
-    rw (told replySays (c .before .before .before .before .apb .ensures) (c .before .before .d .given .1), c .divided .ensures)
+returns-2 c = rw (told replySays (c .before .before .before .before .apb .ensures) (c .before .before .d .given .1), c .divided .ensures)
 
 pub apb-quotient-spec : {M : Type 1} → statement M
 apb-quotient-spec = tie.close (tie.spec (search needs) (search needs) (search needs) divided-requires returns returns-2)

@@ -9,8 +9,7 @@ use Rattle.divider.proofs.by_ahb.Tie as tie
 divided-requires : tie.Need-divided-requires
 divided-requires c κs =
     let args = c .before .before .before .before .args in
-    let ahb = c .before .before .before .ahb in
-    ahb-given (args .family) (args .code) (told replySays (ahb .ensures) (c .before .d .given .1)) .low
+    ahb-given (args .family) (args .code) (told replySays (c .before .before .before .ahb .ensures) (c .before .d .given .1)) .low
 
 returns : tie.Need-returns
 unfolding byAhbOf
@@ -18,8 +17,7 @@ returns c = rw (told replySays (c .before .before .before .ahb .ensures) (c .bef
 
 returns-2 : tie.Need-returns-2
 unfolding byAhbOf
-returns-2 c =
-    rw (told replySays (c .before .before .before .before .ahb .ensures) (c .before .before .d .given .1), c .divided .ensures)
+returns-2 c = rw (told replySays (c .before .before .before .before .ahb .ensures) (c .before .before .d .given .1), c .divided .ensures)
 
 pub by-ahb-spec : {M : Type 1} → statement M
 by-ahb-spec = tie.close (tie.spec (search needs) (search needs) (search needs) divided-requires returns returns-2)

@@ -3,9 +3,6 @@ use Rattle.divider.specs.Divide.{fpreDivisor}
 use Rattle.divider.proofs.fpre.Statement.{statement}
 use Rattle.divider.proofs.fpre.Tie as tie
 
-returns : tie.Need-returns
-unfolding fpreDivisor
-returns c = search needs
-
 pub fpre-spec : {M : Type 1} → statement M
-fpre-spec = tie.close (tie.spec (search needs) (search needs) (search needs) returns)
+unfolding fpreDivisor
+fpre-spec = tie.close (tie.spec (search needs) (search needs) (search needs) (search needs))

@@ -10,11 +10,10 @@ use Rattle.h4.proofs.clocks_from_sysclk.Tie as tie
 returns : tie.Need-returns
 unfolding prescaledOf
 returns c =
-    let ahb-from-sysclk = c .before .before .before .ahb-from-sysclk in
     simp (
       c .refusal .ensures,
       c .before .enum-told .given .1,
-      told rateSays (ahb-from-sysclk .ensures) (c .before .enum-told .given .1),
+      told rateSays (c .before .before .before .ahb-from-sysclk .ensures) (c .before .enum-told .given .1),
     )
 
 returns-2 : tie.Need-returns-2
@@ -23,9 +22,8 @@ returns-2 c =
     let at-below-hclk = c .before .before .before in
     let at-hclk-from-ahb = at-below-hclk .before in
     let at-divided = at-hclk-from-ahb .before .before in
-    let at-ahb-from-sysclk = at-divided .before .before in
     simp (
-      told rateSays (at-ahb-from-sysclk .ahb-from-sysclk .ensures) (at-divided .divided .given .1),
+      told rateSays (at-divided .before .before .ahb-from-sysclk .ensures) (at-divided .divided .given .1),
       sym (at-hclk-from-ahb .hclk-from-ahb .ensures),
       told busesSays (at-below-hclk .below-hclk .ensures) (c .before .n .given .1),
     )
@@ -36,9 +34,8 @@ returns-3 c =
     let at-below-hclk = c .before .before .before in
     let at-hclk-from-ahb = at-below-hclk .before in
     let at-divided = at-hclk-from-ahb .before .before in
-    let at-ahb-from-sysclk = at-divided .before .before in
     simp (
-      told rateSays (at-ahb-from-sysclk .ahb-from-sysclk .ensures) (at-divided .divided .given .1),
+      told rateSays (at-divided .before .before .ahb-from-sysclk .ensures) (at-divided .divided .given .1),
       sym (at-hclk-from-ahb .hclk-from-ahb .ensures),
       told busesSays (at-below-hclk .below-hclk .ensures) (c .before .clocks .given .1),
     )

@@ -4,9 +4,6 @@ use mathlib.Core.Path.{refl}
 use Rattle.image.proofs.in_width.Statement.{statement}
 use Rattle.image.proofs.in_width.Tie as tie
 
-returns : tie.Need-returns
-unfolding inWidths
-returns c = refl
-
 pub in-width-spec : {M : Type 1} → statement M
-in-width-spec = tie.close (tie.spec returns)
+unfolding inWidths
+in-width-spec = tie.close (tie.spec (λ c. refl))

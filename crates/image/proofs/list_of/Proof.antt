@@ -5,13 +5,11 @@ use borrow.Author.Needs.{needs}
 use Rattle.image.proofs.list_of.Statement.{statement}
 use Rattle.image.proofs.list_of.Tie as tie
 
-returns : tie.Need-returns
-unfolding listOf
-returns c = refl
-
 pub list-of-spec : {M : Type 1} → statement M
+unfolding listOf
 list-of-spec =
     tie.close
-    (tie.spec (search needs) (search needs) (search needs) (search needs) (search needs) (search needs) (search needs) (search needs) (search needs)
+    (tie.spec (search needs) (search needs) (search needs) (search needs) (search needs) (search needs) (search needs) (search needs)
     (search needs) (search needs) (search needs) (search needs) (search needs) (search needs) (search needs) (search needs) (search needs)
-    (search needs) returns)
+    (search needs) (search needs)
+    (λ c. refl))

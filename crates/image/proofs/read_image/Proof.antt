@@ -26,10 +26,6 @@ module _ (s xs : List ℕ) (l : length s ≡ 8) (e : xs ≡ cut widths s 0) wher
       let k : zeroFilled (cut widths s 0) ≡ true = sym (ap zeroFilled e) ∙ eq-eqb (getD xs 33 0) 0 h in
       rw (eq-eqb (length s) 8 l, k) (ap gives (g ∙ ap fieldsOf e))
 
-returns : tie.Need-returns
-unfolding readImage
-returns c = simp (ne-eqb _ _ (c .if1 .taken))
-
 returns-2 : tie.Need-returns-2
 returns-2 c =
     let at-load = c .before .before in
@@ -43,6 +39,8 @@ returns-3 c =
     taken (at-if1 .before .before .args .s .now) _ (at-if1 .if1 .left) (at-load .load .ensures) _ (c .before .if2 .left) (c .fields-of .ensures)
 
 pub read-image-spec : {M : Type 1} → statement M
+unfolding readImage
 read-image-spec =
     tie.close
-    (tie.spec returns (search needs) (search needs) (search needs) (search needs) returns-2 (search needs) returns-3)
+    (tie.spec (λ c. simp (ne-eqb _ _ (c .if1 .taken)))
+    (search needs) (search needs) (search needs) (search needs) returns-2 (search needs) returns-3)

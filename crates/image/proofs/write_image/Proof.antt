@@ -35,9 +35,6 @@ module _ (f : Fields) (l xs l′ : List ℕ) (r : Bool) (h : 8 ≤ length l) (e 
       let w : inWidth f ≡ false = sym stored ∙ t in
       writing.unplaced widths xs l l′ r refl h s (imageBytes f) 28 t (rw w)
 
-returns : tie.Need-returns
-returns c = let a = c .before .before .args in writing.short 8 (imageBytes (a .f)) (a .out .now) (c .if1 .taken)
-
 returns-2 : tie.Need-returns-2
 returns-2 c =
     let at-list = c .before .before .before .before .before .before .before in
@@ -53,4 +50,5 @@ returns-3 c =
 pub write-image-spec : {M : Type 1} → statement M
 write-image-spec =
     tie.close
-    (tie.spec returns (search needs) (search needs) (search needs) (search needs) (search needs) returns-2 (search needs) returns-3)
+    (tie.spec (λ c. let a = c .before .before .args in writing.short 8 (imageBytes (a .f)) (a .out .now) (c .if1 .taken))
+    (search needs) (search needs) (search needs) (search needs) (search needs) returns-2 (search needs) returns-3)

@@ -9,32 +9,23 @@ use Rattle.pll32.proofs.decoded_clocks.Tie as tie
 returns-2 : tie.Need-returns-2
 unfolding decodedClocksOf
 returns-2 c =
-    let wide-setting = c .before .before .before .before .before .before .wide-setting in
-    let too-wide = c .before .before .before .before .before .too-wide in
-    let if1 = c .before .before .before .before .if1 in
-    let decoded-sysclk = c .before .before .before .decoded-sysclk in
     simp (
-      sym (wide-setting .ensures),
-      sym (too-wide .ensures),
-      if1 .left,
+      sym (c .before .before .before .before .before .before .wide-setting .ensures),
+      sym (c .before .before .before .before .before .too-wide .ensures),
+      c .before .before .before .before .if1 .left,
       c .refusal .ensures,
       c .before .enum-told .given .1,
-      told rateSays (decoded-sysclk .ensures) (c .before .enum-told .given .1),
+      told rateSays (c .before .before .before .decoded-sysclk .ensures) (c .before .enum-told .given .1),
     )
 
 returns-3 : tie.Need-returns-3
 unfolding decodedClocksOf
 returns-3 c =
-    let wide-setting = c .before .before .before .before .before .before .before .before .wide-setting in
-    let too-wide = c .before .before .before .before .before .before .before .too-wide in
-    let if1 = c .before .before .before .before .before .before .if1 in
-    let decoded-sysclk = c .before .before .before .before .before .decoded-sysclk in
-    let system = c .before .before .before .system in
     simp (
-      sym (wide-setting .ensures),
-      sym (too-wide .ensures),
-      if1 .left,
-      told rateSays (decoded-sysclk .ensures) (system .given .1),
+      sym (c .before .before .before .before .before .before .before .before .wide-setting .ensures),
+      sym (c .before .before .before .before .before .before .before .too-wide .ensures),
+      c .before .before .before .before .before .before .if1 .left,
+      told rateSays (c .before .before .before .before .before .decoded-sysclk .ensures) (c .before .before .before .system .given .1),
       sym (c .before .family .ensures),
       c .bus-clocks .ensures,
     )

@@ -15,31 +15,24 @@ mul-product c =
 returns-2 : tie.Need-returns-2
 unfolding multipliedOf
 returns-2 c =
-    let factor-of = c .before .before .before .before .before .before .factor-of in
-    let if1 = c .before .before .before .before .if1 in
-    let hertz = c .before .before .before .hertz in
-    let halved = c .before .before .halved in
     simp (
-      sym (factor-of .ensures),
-      le-ltb _ _ (if1 .left),
-      sym (halved .ensures),
+      sym (c .before .before .before .before .before .before .factor-of .ensures),
+      le-ltb _ _ (c .before .before .before .before .if1 .left),
+      sym (c .before .before .halved .ensures),
       c .before .if2 .taken,
       c .by-one-more .ensures,
-      hertz .ensures,
+      c .before .before .before .hertz .ensures,
     )
 
 returns-3 : tie.Need-returns-3
 unfolding multipliedOf
 returns-3 c =
-    let factor-of = c .before .before .before .before .before .factor-of in
-    let if1 = c .before .before .before .if1 in
-    let hertz = c .before .before .hertz in
     simp (
-      sym (factor-of .ensures),
-      le-ltb _ _ (if1 .left),
+      sym (c .before .before .before .before .before .factor-of .ensures),
+      le-ltb _ _ (c .before .before .before .if1 .left),
       sym (c .before .halved .ensures),
       c .if2 .left,
-      hertz .ensures,
+      c .before .before .hertz .ensures,
     )
 
 pub multiplied-spec : {M : Type 1} → statement M

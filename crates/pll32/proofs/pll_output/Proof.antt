@@ -13,12 +13,10 @@ use Rattle.pll32.proofs.pll_output.Tie as tie
 returns-2 : tie.Need-returns-2
 unfolding pllOutputOf
 returns-2 c =
-    let wide-setting = c .before .before .before .before .wide-setting in
-    let if1 = c .before .before .before .if1 in
     let source-frequency = c .before .before .source-frequency in
     simp (
-      sym (wide-setting .ensures),
-      if1 .left,
+      sym (c .before .before .before .before .wide-setting .ensures),
+      c .before .before .before .if1 .left,
       source-frequency .ensures,
       told rateSays (source-frequency .ensures) (c .enum-told .given .1),
     )
@@ -35,14 +33,10 @@ multiplied-requires c κs =
 returns-3 : tie.Need-returns-3
 unfolding pllOutputOf
 returns-3 c =
-    let wide-setting = c .before .before .before .before .before .before .before .wide-setting in
-    let if1 = c .before .before .before .before .before .before .if1 in
-    let source-frequency = c .before .before .before .before .before .source-frequency in
-    let feeding = c .before .before .before .feeding in
     simp (
-      sym (wide-setting .ensures),
-      if1 .left,
-      told rateSays (source-frequency .ensures) (feeding .given .1),
+      sym (c .before .before .before .before .before .before .before .wide-setting .ensures),
+      c .before .before .before .before .before .before .if1 .left,
+      told rateSays (c .before .before .before .before .before .source-frequency .ensures) (c .before .before .before .feeding .given .1),
       c .multiplied .ensures,
       c .before .by-one-more .ensures,
     )

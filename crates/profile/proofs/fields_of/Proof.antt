@@ -28,7 +28,4 @@ returns c =
     (c .before .before .hspll-fields .ensures) (c .before .adc-fields .ensures)
 
 pub fields-of-spec : {M : Type 1} → statement M
-fields-of-spec =
-    tie.close
-    (tie.spec (search needs) (search needs) (search needs) (search needs) (search needs) (search needs) (search needs) (search needs) (search needs)
-    (search needs) (search needs) (search needs) (search needs) (search needs) (search needs) (search needs) (search needs) returns)
+fields-of-spec = tie.close (search (tie.spec, needs, returns))

@@ -21,16 +21,9 @@ present : (h : Hse) (b : Bool) (hz : ℕ) (four : List ℕ) → h ≡ hse.Presen
     → 1 ∷ boolByte b ∷ getD four 0 0 ∷ getD four 1 0 ∷ getD four 2 0 ∷ getD four 3 0 ∷ [] ≡ hseFields h
 present h b hz four e k f = rw (e, f) (ap (λ (n : ℕ). 1 ∷ bit b ∷ n ∷ unpack (bytes 3) hz) (shr-mod 8 24 k))
 
-returns : tie.Need-returns
-returns c = simp (c .enum-told .given .1)
-
-returns-2 : tie.Need-returns-2
-returns-2 c =
-    let h = c .before .before .hse .given in
-    present _ _ _ _ (h .1) (omega arith) (c .four-bytes .ensures)
-
 pub hse-fields-spec : {M : Type 1} → statement M
 hse-fields-spec =
     tie.close
-    (tie.spec (search needs) (search needs) (search needs) (search needs) (search needs) (search needs) (search needs) (search needs) returns
-    returns-2)
+    (tie.spec (search needs) (search needs) (search needs) (search needs) (search needs) (search needs) (search needs) (search needs)
+    (λ c. simp (c .enum-told .given .1))
+    (λ c. present _ _ _ _ (c .before .before .hse .given .1) (omega arith) (c .four-bytes .ensures)))

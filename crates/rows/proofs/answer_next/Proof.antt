@@ -13,19 +13,16 @@ use Rattle.rows.proofs.answer_next.Tie as tie
 room : (n k : ℕ) (e : List ℕ) → n ≤ k → k ≤ length e → (d : List ℕ) → n ≤ length (e ++ d)
 room n k e h g d = rw length-append (omega arith)
 
-slice-aggregate-read-full-2 : tie.Need-slice-aggregate-read-full-2
-slice-aggregate-read-full-2 c = sym (length-take-le _ _ (search needs))
-
 array-share-prefix-input : tie.Need-array-share-prefix-input
 array-share-prefix-input c =
     let part = c .before .before .read-full2 in
     room _ (part .result) (part .last .1 .0) (c .if2 .left) (part .ensures .0) _
 
-slice-aggregate-answer : tie.Need-slice-aggregate-answer
-slice-aggregate-answer c = sym (length-take-le _ _ (array-share-prefix-input (c .before)))
-
 pub answer-next-spec : {M : Type 1} → statement M
 answer-next-spec =
     tie.close
-    (tie.spec (search needs) (search needs) (search needs) (search needs) (search needs) (search needs) slice-aggregate-read-full-2 (search needs)
-    (search needs) array-share-prefix-input slice-aggregate-answer (search needs) (search needs))
+    (tie.spec (search needs) (search needs) (search needs) (search needs) (search needs) (search needs)
+    (λ c. sym (length-take-le _ _ (search needs)))
+    (search needs) (search needs) array-share-prefix-input
+    (λ c. sym (length-take-le _ _ (array-share-prefix-input (c .before))))
+    (search needs) (search needs))

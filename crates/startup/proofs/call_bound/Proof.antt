@@ -9,9 +9,7 @@ use Rattle.startup.proofs.call_bound.Tie as tie
 
 returns : tie.Need-returns
 unfolding callBoundOf
-returns c =
-    let owes = c .before .before .waits-owed .ensures in
-    simp (c .enum-told .given .1, told replySays owes (c .enum-told .given .1))
+returns c = simp (c .enum-told .given .1, told replySays (c .before .before .waits-owed .ensures) (c .enum-told .given .1))
 
 mul-calls : tie.Need-mul-calls
 mul-calls c =

@@ -16,11 +16,8 @@ module _ (lent at n : ℕ) where
   within h true e = let k = ltb-true (lent - at) n e in sym (lt-ltb lent (at + n) (omega arith))
   within h false e = let k = ltb-false (lent - at) n e in sym (le-ltb lent (at + n) (omega arith))
 
-returns : tie.Need-returns
-returns c = let args = c .before .args in beyond (args .lent) (args .at) (args .n) (c .if1 .taken)
-
-returns-2 : tie.Need-returns-2
-returns-2 c = let args = c .before .args in within (args .lent) (args .at) (args .n) (c .if1 .left) _ refl
-
 pub no-room-spec : {M : Type 1} → statement M
-no-room-spec = tie.close (tie.spec returns returns-2)
+no-room-spec =
+    tie.close
+    (tie.spec (λ c. let args = c .before .args in beyond (args .lent) (args .at) (args .n) (c .if1 .taken))
+    (λ c. let args = c .before .args in within (args .lent) (args .at) (args .n) (c .if1 .left) _ refl))

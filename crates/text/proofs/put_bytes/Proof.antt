@@ -9,9 +9,6 @@ use Rattle.text.specs.Pieces.{refused, placed}
 use Rattle.text.proofs.put_bytes.Statement.{statement}
 use Rattle.text.proofs.put_bytes.Tie as tie
 
-returns : tie.Need-returns
-returns c = search needs
-
 returns-2 : tie.Need-returns-2
 returns-2 c =
     let args = c .before .before .before .before .before .before .before .args in
@@ -22,12 +19,6 @@ room : (c : tie.Else1)
     → let args = c .before .before .before .before .before .before .before .args in
     c .before .before .before .place .given .0 .0 + length (args .text .now) ≤ length (args .out .now)
 room c = ltb-false _ _ (sym (c .before .no-room .ensures) ∙ c .if1 .left)
-
-copy-requires : tie.Need-copy-requires
-copy-requires c κs = room (c .before)
-
-add-t7 : tie.Need-add-t7
-add-t7 c = let h = room (c .before .before .before .before) in omega arith
 
 returns-3 : tie.Need-returns-3
 returns-3 c =
@@ -40,4 +31,7 @@ returns-3 c =
 pub put-bytes-spec : {M : Type 1} → statement M
 put-bytes-spec =
     tie.close
-    (tie.spec (search needs) (search needs) returns (search needs) returns-2 copy-requires add-t7 (search needs) returns-3)
+    (tie.spec (search needs) (search needs) (λ c. search needs) (search needs) returns-2
+    (λ c κs. room (c .before))
+    (λ c. let h = room (c .before .before .before .before) in omega arith)
+    (search needs) returns-3)

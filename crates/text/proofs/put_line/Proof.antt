@@ -8,9 +8,6 @@ use Rattle.text.proofs.Numbers.{number-part, line-length}
 use Rattle.text.proofs.put_line.Statement.{statement}
 use Rattle.text.proofs.put_line.Tie as tie
 
-returns : tie.Need-returns
-returns c = search needs
-
 returns-2 : tie.Need-returns-2
 returns-2 c =
     let spell = c .before .before .before .spell in
@@ -39,6 +36,6 @@ returns-3 c =
 pub put-line-spec : {M : Type 1} → statement M
 put-line-spec =
     tie.close
-    (tie.spec (search needs) (search needs) returns (search needs) (search needs) (search needs) (search needs) (search needs) returns-2
-    (search needs) (search needs) (search needs) (search needs) (search needs) (search needs) (search needs) (search needs) (search needs)
-    (search needs) returns-3)
+    (tie.spec (search needs) (search needs) (λ c. search needs) (search needs) (search needs) (search needs) (search needs) (search needs)
+    returns-2 (search needs) (search needs) (search needs) (search needs) (search needs) (search needs) (search needs) (search needs)
+    (search needs) (search needs) returns-3)

@@ -13,15 +13,10 @@ use Rattle.tree.proofs.apb_bus.Tie as tie
 -- what the definition leaves to do where the bus is divided: its timers' clock
 from-divided : (c : tie.After-known-told2)
     → let args = c .before .before .before .before .args in
-    let divisor = c .before .divisor .given .0 .0 in
     let pclk = c .before .divisor .given .0 .1 .0 in
-    busOf (args .family) (args .hclk) (args .code) ≡ gives (pclk, timerClock (args .family) divisor (pclk .hz))
+    busOf (args .family) (args .hclk) (args .code) ≡ gives (pclk, timerClock (args .family) (c .before .divisor .given .0 .0) (pclk .hz))
 unfolding busOf
 from-divided c = simp (told quotientSays (c .before .before .before .apb-quotient .ensures) (c .before .divisor .given .1))
-
-returns : tie.Need-returns
-unfolding timerClock
-returns c = simp (from-divided (c .before), eq-eqb _ _ (c .if1 .taken))
 
 mul-tim : tie.Need-mul-tim
 mul-tim c =
@@ -32,10 +27,6 @@ mul-tim c =
     let quotient = told quotientSays (at-quotient .apb-quotient .ensures) (at-divisor .divisor .given .1) in
     let wide : args .hclk .hz < 4294967296 = search needs in
     omega (arith, quotient-twice (args .hclk) (args .code) quotient (at-if1 .if1 .left), wide)
-
-returns-2 : tie.Need-returns-2
-unfolding busOf
-returns-2 c = simp (told quotientSays (c .before .before .before .apb-quotient .ensures) (c .before .n .given .1))
 
 returns-3 : tie.Need-returns-3
 unfolding timerClock
@@ -50,6 +41,11 @@ returns-4 c =
     simp (from-divided (at-if1 .before), ne-eqb _ _ (at-if1 .if1 .left), sym (c .before .doubling .ensures), c .if2 .left)
 
 pub apb-bus-spec : {M : Type 1} → statement M
+unfolding timerClock busOf
 apb-bus-spec =
     tie.close
-    (tie.spec (search needs) (search needs) (search needs) returns (search needs) mul-tim returns-2 returns-3 returns-4)
+    (tie.spec (search needs) (search needs) (search needs)
+    (λ c. simp (from-divided (c .before), eq-eqb _ _ (c .if1 .taken)))
+    (search needs) mul-tim
+    (λ c. simp (told quotientSays (c .before .before .before .apb-quotient .ensures) (c .before .n .given .1)))
+    returns-3 returns-4)

@@ -11,8 +11,7 @@ returns c = simp (told rateSays (c .before .before .before .by-ahb .ensures) (c 
 
 returns-2 : tie.Need-returns-2
 unfolding clocksOf
-returns-2 c =
-    simp (told rateSays (c .before .before .before .before .by-ahb .ensures) (c .before .before .hclk .given .1), c .below-hclk .ensures)
+returns-2 c = simp (told rateSays (c .before .before .before .before .by-ahb .ensures) (c .before .before .hclk .given .1), c .below-hclk .ensures)
 
 pub bus-clocks-spec : {M : Type 1} → statement M
 bus-clocks-spec = tie.close (tie.spec (search needs) (search needs) (search needs) (search needs) returns returns-2)

@@ -9,10 +9,8 @@ use Rattle.v30x.proofs.pll_from_oscillator.Tie as tie
 returns-2 : tie.Need-returns-2
 unfolding pllFromOscillatorOf
 returns-2 c =
-    let pll-output = c .before .before .before .before .before .pll-output in
-    let x = c .before .before .before .x in
     simp (
-      told rateSays (pll-output .ensures) (x .given .1),
+      told rateSays (c .before .before .before .before .before .pll-output .ensures) (c .before .before .before .x .given .1),
       sym (c .before .from-hsi .ensures),
       c .if1 .taken,
     )
@@ -21,8 +19,7 @@ returns-3 : tie.Need-returns-3
 unfolding pllFromOscillatorOf
 returns-3 c =
     let pll-output = c .before .before .before .before .before .pll-output in
-    let x = c .before .before .before .x in
-    simp (told rateSays (pll-output .ensures) (x .given .1), sym (c .before .from-hsi .ensures), c .if1 .left)
+    simp (told rateSays (pll-output .ensures) (c .before .before .before .x .given .1), sym (c .before .from-hsi .ensures), c .if1 .left)
 
 pub pll-from-oscillator-spec : {M : Type 1} → statement M
 unfolding pllFromOscillatorOf

@@ -10,9 +10,8 @@ use Rattle.v30x.proofs.usbhs.Tie as tie
 returns-2 : tie.Need-returns-2
 unfolding usbhsOf
 returns-2 c =
-    let hspll = c .before .before .before .before .before .hspll in
     let source-frequency = c .before .before .before .source-frequency in
-    simp (hspll .given .1, told rateSays (source-frequency .ensures) (c .before .n .given .1))
+    simp (c .before .before .before .before .before .hspll .given .1, told rateSays (source-frequency .ensures) (c .before .n .given .1))
 
 -- what the definition leaves to do where the reference is tested
 from-test : (c : tie.After-reference-allowed)

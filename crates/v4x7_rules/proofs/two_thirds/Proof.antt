@@ -3,9 +3,6 @@ use Rattle.v4x7_rules.specs.Rules.{twoThirds}
 use Rattle.v4x7_rules.proofs.two_thirds.Statement.{statement}
 use Rattle.v4x7_rules.proofs.two_thirds.Tie as tie
 
-returns : tie.Need-returns
-unfolding twoThirds
-returns c = rw (c .by-one-more .ensures, c .before .hertz .ensures)
-
 pub two-thirds-spec : {M : Type 1} → statement M
-two-thirds-spec = tie.close (tie.spec (search needs) (search needs) (search needs) returns)
+unfolding twoThirds
+two-thirds-spec = tie.close (tie.spec (search needs) (search needs) (search needs) (λ c. rw (c .by-one-more .ensures, c .before .hertz .ensures)))

@@ -22,9 +22,8 @@ unfolding keptOf
 returns-2 c =
     let at-read-image = c .before .before .before in
     let at-config = at-read-image .before .before .before in
-    let at-read-profile = at-config .before .before in
     simp (
-      told readProfileSays (at-read-profile .read-profile .ensures) (at-config .config .given .1),
+      told readProfileSays (at-config .before .before .read-profile .ensures) (at-config .config .given .1),
       told readImageSays (at-read-image .read-image .ensures) (c .before .n2 .given .1),
     )
 
@@ -34,9 +33,8 @@ returns-3 c =
     let at-fields = c .before .before in
     let at-read-image = at-fields .before .before in
     let at-config = at-read-image .before .before .before in
-    let at-read-profile = at-config .before .before in
     simp (
-      told readProfileSays (at-read-profile .read-profile .ensures) (at-config .config .given .1),
+      told readProfileSays (at-config .before .before .read-profile .ensures) (at-config .config .given .1),
       told readImageSays (at-read-image .read-image .ensures) (at-fields .fields .given .1),
     ) (ap gives (c .standing .ensures))
 
@@ -44,18 +42,7 @@ pub kept-spec : {M : Type 1} → statement M
 unfolding keptOf
 kept-spec =
     tie.close
-    (tie.spec
-    slice-aggregate-read-profile
-    (search needs)
-    (search needs)
-    (search needs)
-    (search needs)
-    (search needs)
-    (search needs)
-    (search needs)
-    (search needs)
-    (search needs)
-    (search needs)
+    (tie.spec slice-aggregate-read-profile (search needs) (search needs) (search needs) (search needs) (search needs) (search needs)
+    (search needs) (search needs) (search needs) (search needs)
     (λ c. simp (told readProfileSays (c .before .before .before .read-profile .ensures) (c .before .n .given .1)))
-    returns-2
-    returns-3)
+    returns-2 returns-3)

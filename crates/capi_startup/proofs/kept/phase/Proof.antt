@@ -7,15 +7,13 @@ returns-4 : tie.Need-returns-4
 unfolding phaseOf
 returns-4 c =
     let at-if2 = c .before .before in
-    let at-if1 = at-if2 .before in
-    simp (ne-eqb _ _ (at-if1 .if1 .left), ne-eqb _ _ (at-if2 .if2 .left), c .before .if3 .left, eq-eqb _ _ (c .if4 .taken))
+    simp (ne-eqb _ _ (at-if2 .before .if1 .left), ne-eqb _ _ (at-if2 .if2 .left), c .before .if3 .left, eq-eqb _ _ (c .if4 .taken))
 
 returns-5 : tie.Need-returns-5
 unfolding phaseOf
 returns-5 c =
     let at-if2 = c .before .before in
-    let at-if1 = at-if2 .before in
-    simp (ne-eqb _ _ (at-if1 .if1 .left), ne-eqb _ _ (at-if2 .if2 .left), c .before .if3 .left, ne-eqb _ _ (c .if4 .left))
+    simp (ne-eqb _ _ (at-if2 .before .if1 .left), ne-eqb _ _ (at-if2 .if2 .left), c .before .if3 .left, ne-eqb _ _ (c .if4 .left))
 
 pub phase-spec : {M : Type 1} → statement M
 unfolding phaseOf

@@ -9,19 +9,14 @@ use Rattle.startup.proofs.steps.agrees.Tie as tie
 returns : tie.Need-returns
 unfolding agreesOf
 returns c =
-    let hse-frequency = c .before .before .before .hse-frequency in
-    let decode = c .before .before .decode in
-    simp (sym (hse-frequency .ensures), told busesSays (decode .ensures) (c .enum-told .given .1))
+    simp (sym (c .before .before .before .hse-frequency .ensures), told busesSays (c .before .before .decode .ensures) (c .enum-told .given .1))
 
 returns-2 : tie.Need-returns-2
 unfolding agreesOf
 returns-2 c =
-    let hse-frequency = c .before .before .before .before .before .hse-frequency in
-    let decode = c .before .before .before .before .decode in
-    let clocks = c .before .before .clocks in
     simp (
-      sym (hse-frequency .ensures),
-      told busesSays (decode .ensures) (clocks .given .1),
+      sym (c .before .before .before .before .before .hse-frequency .ensures),
+      told busesSays (c .before .before .before .before .decode .ensures) (c .before .before .clocks .given .1),
       c .same-clocks .ensures,
     )
 

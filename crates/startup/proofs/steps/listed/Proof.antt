@@ -25,11 +25,7 @@ pub listed-spec : {M : Type 1} → statement M
 unfolding listedOf
 listed-spec =
     tie.close
-    (tie.spec
-    (search needs)
-    (search needs)
-    (search needs)
-    (search needs)
+    (tie.spec (search needs) (search needs) (search needs) (search needs)
     (λ c. c .from-usbhs .ensures ∙ ap (listedOf (c .before .before .args .config)) (sym (c .before .match .keys1)))
     (λ c. ap (listedOf (c .before .before .args .config)) (sym (c .before .match .keys2)))
     (λ c.

@@ -8,21 +8,17 @@ use Rattle.startup.proofs.steps.usbhs_code.Statement.{statement}
 use Rattle.startup.proofs.steps.usbhs_code.Tie as tie
 
 cast-result : tie.Need-cast-result
-cast-result c =
-    let reference-code = c .before .before .before .reference-code in
-    omega (arith, code-small _ (told replySays (reference-code .ensures) (c .before .code .given .1)))
+cast-result c = omega (arith, code-small _ (told replySays (c .before .before .before .reference-code .ensures) (c .before .code .given .1)))
 
 returns : tie.Need-returns
 returns c =
-    let usbhs-reference = c .before .before .before .before .usbhs-reference in
     let reference-code = c .before .before .before .reference-code in
-    simp (sym (usbhs-reference .ensures), told replySays (reference-code .ensures) (c .before .code .given .1))
+    simp (sym (c .before .before .before .before .usbhs-reference .ensures), told replySays (reference-code .ensures) (c .before .code .given .1))
 
 returns-2 : tie.Need-returns-2
 returns-2 c =
-    let usbhs-reference = c .before .before .before .usbhs-reference in
     let reference-code = c .before .before .reference-code in
-    simp (sym (usbhs-reference .ensures), told replySays (reference-code .ensures) (c .enum-told .given .1))
+    simp (sym (c .before .before .before .usbhs-reference .ensures), told replySays (reference-code .ensures) (c .enum-told .given .1))
 
 pub usbhs-code-spec : {M : Type 1} → statement M
 usbhs-code-spec =

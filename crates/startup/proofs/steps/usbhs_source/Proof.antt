@@ -3,10 +3,7 @@ use Rattle.startup.proofs.steps.usbhs_source.Statement.{statement}
 use Rattle.startup.proofs.steps.usbhs_source.Tie as tie
 
 returns-2 : tie.Need-returns-2
-returns-2 c =
-    let hspll = c .before .before .before .before .hspll in
-    let usbhs-code = c .before .before .usbhs-code in
-    simp (hspll .given .1, usbhs-code .ensures)
+returns-2 c = simp (c .before .before .before .before .hspll .given .1, c .before .before .usbhs-code .ensures)
 
 pub usbhs-source-spec : {M : Type 1} → statement M
 usbhs-source-spec =
