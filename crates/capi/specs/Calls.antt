@@ -1,19 +1,16 @@
 -- The calls on bytes: the reader of profile or image, then the call itself.
 -- Assumes nothing.
 use Prim.Native.Nat.{ℕ}
-use mathlib.Core.Bool.{cond}
 use mathlib.Core.List.{List}
-use lib.Dec.{eqb}
 use Rattle.answer.specs.Answer.{Answer, gives, _>>=_}
 use Rattle.tree.specs.declared.Clocks.{Clocks}
-use Rattle.tree.specs.declared.HseFrequency.{HseFrequency}
-use Rattle.tree.specs.declared.HseFrequency.the-variants as hse
 use Rattle.v4x7.specs.declared.ClockRecord.{ClockRecord}
 use Rattle.v4x7.specs.Check.{checkOf}
 use Rattle.profile.specs.Profile.{readProfile}
 use Rattle.image.specs.Image.{readImage}
 use Rattle.decoder.specs.Decode.{decodeOf}
 use Rattle.decoder.specs.Queries.{Ready, hertz, notReady, adcQueryOf, rngQueryOf}
+use Rattle.capi_give.specs.Given.{decoderHse}
 
 -- a profile's check: 29, 30, then the check's refusals
 unfoldable pub checkRead : List ℕ → Answer ClockRecord
@@ -27,15 +24,11 @@ sevenOf m = do
   x ← m
   gives (x .clocks, x .adc)
 
--- HSE's frequency as the decoder takes it: 0 where there is no HSE
-abbrev pub hseOf : ℕ → HseFrequency
-hseOf hz = cond (eqb hz 0) hse.Absent (hse.Hz hz)
-
 -- an image decoded: 31, then the decoder's refusals
 unfoldable pub decodeRead : List ℕ → ℕ → Answer Clocks
 decodeRead i hz = do
   f ← readImage i
-  decodeOf f (hseOf hz)
+  decodeOf f (decoderHse hz)
 
 -- the ADC query of an image: 31, then the query's refusals
 unfoldable pub adcRead : List ℕ → ℕ → Answer Ready

@@ -6,7 +6,7 @@ ghost use Rattle.answer.specs.Said.{replySays};
 ghost use Rattle.capi_give.specs.Given.{Given, GivenOne, sixWords, sevenWords, sevenfoldSays, twoWords, twofoldSays};
 ghost use Rattle.tree.specs.Tree.{busesSays};
 ghost use Rattle.decoder.specs.Queries.{querySays};
-ghost use Rattle.capi.specs.Calls.{checkRead, sevenOf, hseOf, decodeRead, pairOf, adcRead, rngRead};
+ghost use Rattle.capi.specs.Calls.{checkRead, sevenOf, decodeRead, pairOf, adcRead, rngRead};
 ghost use Rattle.capi.specs.Owed.{keyRead, waitsRead, callsRead};
 use answer::Reply;
 use capi_give::Sevenfold;
@@ -16,7 +16,6 @@ use image::ReadImage;
 use profile::ReadProfile;
 use startup::FlashKey;
 use tree::Buses;
-use tree::HseFrequency;
 use v4x7::Checked;
 use v4x7::refused;
 
@@ -51,22 +50,12 @@ pub extern "C" fn wontabeli_check(from: &[u8], out: &mut [u32]) -> u8
     capi_give::give_seven(check(from), out)
 }
 
-fn hse(hz: u32) -> HseFrequency
-    ensures { λ r. ⌜ r ≡ hseOf hz ⌝ }
-{
-    if hz == 0 {
-        HseFrequency::Absent
-    } else {
-        HseFrequency::Hz(hz)
-    }
-}
-
 fn decode(from: &[u8], hz: u32) -> Buses
     ensures { λ r. ⌜ busesSays r ≡ decodeRead (now (from .entry)) hz ⌝ }
 {
     match image::read_image(from) {
         ReadImage::Refused(n) => Buses::Refused(n),
-        ReadImage::Image(fields) => decoder::decode(fields, hse(hz)),
+        ReadImage::Image(fields) => decoder::decode(fields, capi_give::decoder_hse(hz)),
     }
 }
 

@@ -2,7 +2,7 @@
 use Prim.Native.Nat.{ℕ, zero, suc}
 use mathlib.Core.Path.{_≡_, _∙_, refl, ap}
 use mathlib.Core.Bool.{Bool, true, false, not}
-use mathlib.Core.List.{List, [], _∷_, _++_}
+use mathlib.Core.List.{List, [], _∷_}
 use native.Mathlib.Omega.{arith}
 use borrow.Author.Tests.{le-leb}
 use lib.Dec.{leb, ltb}
@@ -24,9 +24,9 @@ use Rattle.image.specs.Image as image
 use Rattle.image.specs.Order as imageOrder
 use Rattle.decoder.proofs.Order.{decode-in-order, adc-in-order, rng-in-order}
 use Rattle.startup.specs.Call.{keyOf}
-use Rattle.startup.specs.Order.{owed-goes, calls-goes}
+use Rattle.startup.specs.Order.{append-none, owed-goes, calls-goes}
 use Rattle.h4.specs.Order as order4
-use Rattle.capi_give.specs.Given.{Given, numberIn}
+use Rattle.capi_give.specs.Given.{decoderHse, Given, numberIn}
 use Rattle.demands.specs.First.{wide}
 use Rattle.capi.specs.Calls as capi
 use Rattle.capi.specs.Owed.{keyRead, waitsRead, callsRead}
@@ -67,11 +67,6 @@ images i = record { goes = imageOrder.read-in-order i }
 
 -- ---- a record taken apart, or made
 
-append-none : (l : List Test) → firstOf (l ++ []) ≡ firstOf l
-append-none [] = refl
-append-none ((n, true) ∷ l) = refl
-append-none ((n, false) ∷ l) = append-none l
-
 taken-apart : {A : Type 0} {tests : List Test} (reader : List ℕ → Answer A) (ws s : List ℕ) → InOrder tests (reader s) → InOrder tests (fieldsBy reader ws s)
 taken-apart {tests = tests} reader ws s h = record { goes = order-then (reader s) h (λ a e. order-gives) .goes ∙ append-none tests }
 
@@ -107,7 +102,7 @@ demand1-in-c = record {
       through (order-map _ (capi.sevenOf (capi.checkRead p))
       (order-map _ (capi.checkRead p) (order-behind (profile.readProfile p) (profiles p) (λ c. record { goes = check-in-order c }))));
   decode = λ i hz.
-      through (order-map _ (capi.decodeRead i hz) (order-behind (image.readImage i) (images i) (λ f. record { goes = decode-in-order f (capi.hseOf hz) })));
+      through (order-map _ (capi.decodeRead i hz) (order-behind (image.readImage i) (images i) (λ f. record { goes = decode-in-order f (decoderHse hz) })));
   adc = λ i sys.
       through (order-map _ (capi.pairOf (capi.adcRead i sys)) (order-map _ (capi.adcRead i sys)
       (order-behind (image.readImage i) (images i) (λ f. record { goes = adc-in-order f sys }))));

@@ -24,7 +24,7 @@ use Rattle.decoder.specs.Order.{decodeTests, queryTests}
 use Rattle.startup.specs.Order.{owedTests}
 use Rattle.h4.specs.H4.{doubledOf}
 use Rattle.h4.specs.Order as order4
-use Rattle.capi_give.specs.Given.{Given, GivenOne, numberIn, twoWords, sixWords, sevenWords}
+use Rattle.capi_give.specs.Given.{decoderHse, Given, GivenOne, numberIn, twoWords, sixWords, sevenWords}
 use Rattle.demands.specs.First.{wide}
 use Rattle.capi.specs.Calls as capi
 use Rattle.capi.specs.Owed.{keyRead, waitsRead, callsRead}
@@ -59,7 +59,7 @@ pub record Demand1InC : Type 0 where
   -- V4x7: the check, the decoder, the queries, behind the readers of profile and image
   pub check : (p : List ℕ) → Through 7 (sevenWords (capi.sevenOf (capi.checkRead p))) (profileOrder.readTests p ++ behind (profile.readProfile p) checkTests)
   pub decode : (i : List ℕ) (hz : ℕ) →
-      Through 6 (sixWords (capi.decodeRead i hz)) (imageOrder.readTests i ++ behind (image.readImage i) (λ f. decodeTests f (capi.hseOf hz)))
+      Through 6 (sixWords (capi.decodeRead i hz)) (imageOrder.readTests i ++ behind (image.readImage i) (λ f. decodeTests f (decoderHse hz)))
   pub adc : (i : List ℕ) (sys : ℕ) →
       Through 2 (twoWords (capi.pairOf (capi.adcRead i sys))) (imageOrder.readTests i ++ behind (image.readImage i) queryTests)
   pub rng : (i : List ℕ) (sys : ℕ) →

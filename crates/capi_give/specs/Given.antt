@@ -1,15 +1,23 @@
--- What a call that C and Rust make gives: the number that it returns, and all that was lent.
+-- What a call that C and Rust make gives: the number that it returns, and all that was lent. And HSE as it takes it.
 -- Assumes nothing.
 use Prim.Native.Nat.{ℕ}
 use mathlib.Core.Path.{_≡_, sym, _∙_}
+use mathlib.Core.Bool.{cond}
 use mathlib.Core.List.{List, [], _∷_, _++_}
+use lib.Dec.{eqb}
 use Rattle.answer.specs.Answer.{Answer, gives, refuses, _>>=_}
 use Rattle.layout.specs.Lent.{written, after}
 use Rattle.tree.specs.declared.Clocks.{Clocks}
+use Rattle.tree.specs.declared.HseFrequency.{HseFrequency}
+use Rattle.tree.specs.declared.HseFrequency.the-variants as hse
 use Rattle.capi_give.specs.declared.Sevenfold.{Sevenfold}
 use Rattle.capi_give.specs.declared.Sevenfold.the-variants as seven
 use Rattle.capi_give.specs.declared.Twofold.{Twofold}
 use Rattle.capi_give.specs.declared.Twofold.the-variants as two
+
+-- HSE handed to a decoder as a number: 0 where there is none
+abbrev pub decoderHse : ℕ → HseFrequency
+decoderHse hz = cond (eqb hz 0) hse.Absent (hse.Hz hz)
 
 -- the number returned: 0, or the refusal
 abbrev pub numberIn : {A : Type 0} → Answer A → ℕ

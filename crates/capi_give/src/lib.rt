@@ -1,4 +1,5 @@
 // Answers given through memory that a host lends: the record at its start, the rest as it was, and nothing touched after a refusal.
+// And HSE as a host hands it to a decoder.
 ghost use mathlib.Core.Path.{_≡_};
 ghost use mathlib.Core.List.{_++_};
 ghost use Prim.Native.Nat.{_≤_};
@@ -6,10 +7,11 @@ ghost use lib.ListN.{length, drop};
 ghost use Rattle.answer.specs.Answer.{gives};
 ghost use Rattle.answer.specs.Said.{replySays};
 ghost use Rattle.tree.specs.Tree.{busesSays};
-ghost use Rattle.capi_give.specs.Given.{Given, GivenOne, twoWords, twofoldSays, sixWords, sevenWords, sevenfoldSays};
+ghost use Rattle.capi_give.specs.Given.{decoderHse, Given, GivenOne, twoWords, twofoldSays, sixWords, sevenWords, sevenfoldSays};
 use answer::Reply;
 use tree::Buses;
 use tree::Clocks;
+use tree::HseFrequency;
 
 // The six clocks, in words.
 pub const CLOCKS_WORDS: usize = 6;
@@ -28,6 +30,17 @@ pub enum Sevenfold {
 pub enum Twofold {
     Are { first: u32, second: u32 },
     Refused(u8),
+}
+
+// HSE as it is handed to a decoder: a frequency of 0 says that there is none.
+pub fn decoder_hse(hz: u32) -> HseFrequency
+    ensures { λ r. ⌜ r ≡ decoderHse hz ⌝ }
+{
+    if hz == 0 {
+        HseFrequency::Absent
+    } else {
+        HseFrequency::Hz(hz)
+    }
 }
 
 // Copies words into the first of the lent ones.

@@ -8,8 +8,6 @@ use lib.ListN.{getD}
 use Rattle.answer.specs.Answer.{Answer, gives, _>>=_}
 use Rattle.layout.specs.Bits.{bitsAt}
 use Rattle.tree.specs.declared.Clocks.{Clocks}
-use Rattle.tree.specs.declared.HseFrequency.{HseFrequency}
-use Rattle.tree.specs.declared.HseFrequency.the-variants as frequency
 use Rattle.pll32.specs.declared.Hse.{Hse}
 use Rattle.pll32.specs.declared.Hse.the-variants as hse
 use Rattle.pll32.specs.declared.ClockRecord.{ClockRecord}
@@ -30,10 +28,6 @@ hseHzIn l = bitsAt l 16 32
 
 abbrev pub configHse : Bool → Bool → ℕ → Hse
 configHse present bypass hz = cond present (hse.Present bypass hz) hse.Absent
-
--- handed to a decoder as a number: 0 where there is none
-abbrev pub decoderHse : ℕ → HseFrequency
-decoderHse hz = cond (eqb hz 0) frequency.Absent (frequency.Hz hz)
 
 -- Whether HSE has bytes that a configuration may have: an absent part's are zero
 abbrev pub hseAllowed : ℕ → ℕ → ℕ → Bool

@@ -2,17 +2,16 @@
 ghost use mathlib.Core.Path.{_≡_};
 ghost use Rattle.pll32.specs.Pll.{checkedSays};
 ghost use Rattle.capi_give.specs.Given.{sevenfoldSays};
-ghost use Rattle.capi_pll32.specs.Bytes.{hseHzIn, configHse, decoderHse, hseAllowed, sevenOf};
+ghost use Rattle.capi_pll32.specs.Bytes.{hseHzIn, configHse, hseAllowed, sevenOf};
 use capi_give::Sevenfold;
 use pll32::Checked;
 use pll32::Hse;
-use tree::HseFrequency;
 
 // HSE's frequency, from bytes 2 to 5 of a configuration.
 pub fn hse_hz(b: &[u8]) -> u32
     ensures { λ r. ⌜ r ≡ hseHzIn (now (b .entry)) ⌝ }
 {
-    layout::bits(b, 16, 32) as u32
+    layout::word(b, 16)
 }
 
 // HSE of a configuration.
@@ -23,17 +22,6 @@ pub fn config_hse(present: bool, bypass: bool, freq: u32) -> Hse
         Hse::Present { bypass, freq }
     } else {
         Hse::Absent
-    }
-}
-
-// HSE as it is handed to a decoder: a frequency of 0 says that there is none.
-pub fn decoder_hse(hz: u32) -> HseFrequency
-    ensures { λ r. ⌜ r ≡ decoderHse hz ⌝ }
-{
-    if hz == 0 {
-        HseFrequency::Absent
-    } else {
-        HseFrequency::Hz(hz)
     }
 }
 

@@ -18,7 +18,8 @@ use Rattle.v1.specs.declared.Pll.the-variants as pll
 use Rattle.v1.specs.declared.Config.{Config}
 use Rattle.v1.specs.declared.Fields.{Fields}
 use Rattle.v1.specs.V1.{checkOf, decodeOf, fieldsOf}
-use Rattle.capi_pll32.specs.Bytes.{at, yes, yesOrNo, hseHzIn, configHse, hseAllowed, decoderHse}
+use Rattle.capi_give.specs.Given.{decoderHse}
+use Rattle.capi_pll32.specs.Bytes.{at, yes, yesOrNo, hseHzIn, configHse, hseAllowed}
 use Rattle.capi_v1.specs.declared.TakenConfig.{TakenConfig}
 use Rattle.capi_v1.specs.declared.TakenConfig.the-variants as config
 use Rattle.capi_v1.specs.declared.TakenFields.{TakenFields}

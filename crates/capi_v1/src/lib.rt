@@ -166,7 +166,7 @@ fn decode(part: u8, fields: &[u8], hse: u32) -> Buses
     }
     match take_fields(fields) {
         TakenFields::Refused(n) => Buses::Refused(n),
-        TakenFields::Is(f) => v1::decode(chip(part), f, capi_pll32::decoder_hse(hse)),
+        TakenFields::Is(f) => v1::decode(chip(part), f, capi_give::decoder_hse(hse)),
     }
 }
 

@@ -21,7 +21,8 @@ use Rattle.v30x.specs.declared.HsPll.the-variants as hspll
 use Rattle.v30x.specs.declared.Config.{Config}
 use Rattle.v30x.specs.declared.Fields.{Fields}
 use Rattle.v30x.specs.V30x.{checkOf, decodeOf, fieldsOf}
-use Rattle.capi_pll32.specs.Bytes.{at, yes, yesOrNo, hseHzIn, configHse, hseAllowed, decoderHse}
+use Rattle.capi_give.specs.Given.{decoderHse}
+use Rattle.capi_pll32.specs.Bytes.{at, yes, yesOrNo, hseHzIn, configHse, hseAllowed}
 use Rattle.capi_v30x.specs.declared.TakenConfig.{TakenConfig}
 use Rattle.capi_v30x.specs.declared.TakenConfig.the-variants as config
 use Rattle.capi_v30x.specs.declared.TakenFields.{TakenFields}

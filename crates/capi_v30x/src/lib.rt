@@ -183,7 +183,7 @@ fn decode(fields: &[u8], hse: u32) -> Buses
 {
     match take_fields(fields) {
         TakenFields::Refused(n) => Buses::Refused(n),
-        TakenFields::Is(f) => v30x::decode(f, capi_pll32::decoder_hse(hse)),
+        TakenFields::Is(f) => v30x::decode(f, capi_give::decoder_hse(hse)),
     }
 }
 

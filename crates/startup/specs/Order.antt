@@ -151,7 +151,7 @@ either false = refl
 pub unaccepted-28 : (s : Startup) (r : Reading) {n : ℕ} → s .phase ≡ Going → checkOf (s .config) ≡ refuses n → stepOf s r ≡ handedBack s
 unaccepted-28 s r {n} e q = by-check s r (refuses n) e q ∙ either (not (namedOf (s .config)) || not (inWidth (s .fields)))
 
-append-none : (l : List Test) → firstOf (l ++ []) ≡ firstOf l
+pub append-none : (l : List Test) → firstOf (l ++ []) ≡ firstOf l
 append-none [] = refl
 append-none ((n, true) ∷ l) = refl
 append-none ((n, false) ∷ l) = append-none l

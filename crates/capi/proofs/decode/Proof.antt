@@ -15,7 +15,8 @@ unfolding decodeRead
 returns-2 c =
     let at-fields = c .before .before .before in
     let at-read-image = at-fields .before .before in
-    simp (told readImageSays (at-read-image .read-image .ensures) (at-fields .fields .given .1), sym (c .before .hse .ensures)) (c .decode .ensures)
+    simp (told readImageSays (at-read-image .read-image .ensures) (at-fields .fields .given .1), sym (c .before .decoder-hse .ensures))
+    (c .decode .ensures)
 
 pub decode-spec : {M : Type 1} → statement M
 decode-spec =
