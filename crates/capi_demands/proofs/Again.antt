@@ -19,9 +19,9 @@ use Rattle.startup.specs.declared.Phase.the-variants.{Going, Over}
 use Rattle.startup.specs.declared.Startup.{Startup}
 use Rattle.startup.specs.declared.Stepped.{Stepped}
 use Rattle.startup.specs.Call.{numberOf, namedStep}
-use Rattle.capi_startup.specs.Kept.{phaseOf, tagOf, wentOf, word, standingOf, keptOf, tailOf, placeOf}
+use Rattle.capi_startup.specs.Kept.{phaseOf, tagOf, wentOf, standingOf, keptOf, tailOf, placeOf}
 use Rattle.capi_demands.specs.Place.{HeldPhase, Storable, ReadsBack}
-use Rattle.capi_demands.proofs.Bits.{bits-back, byte-read, word-read}
+use Rattle.capi_demands.proofs.Bits.{bits-back, byte-read, word, word-read}
 
 -- a phase by its number
 phase-again : (h : Phase) (step used : ℕ) → HeldPhase h step used → phaseOf (tagOf h) step used ≡ h

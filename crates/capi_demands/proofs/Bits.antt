@@ -1,17 +1,16 @@
 -- Bits of a list of bytes that is put together from others. Assumes nothing.
 use Prim.Native.Nat.{ℕ, zero, suc, _+_, _-_, _*_, _/_, _%_, _^_, _≤_, _<_}
-use mathlib.Core.Path.{_≡_, refl, sym, ap, ap₂, _∙_}
+use mathlib.Core.Path.{_≡_, refl, ap, ap₂, _∙_}
 use mathlib.Core.List.{List, [], _∷_, _++_}
-use native.Mathlib.Nat.{add-assoc, div-one}
+use native.Mathlib.Nat.{add-assoc}
 use native.Mathlib.Omega.{arith}
 use borrow.Author.Tests.{lt-ltb}
 use lib.ListN.{length, getD, List·getD-append}
 use lib.Seq.{getD-append-add}
 use Rattle.layout.specs.Bits.{bitAt, bitsAt}
-use Rattle.layout.specs.Layout.{pack, unpack, fitting, bytes, num, Bytes}
+use Rattle.layout.specs.Layout.{unpack, bytes}
 use Rattle.layout.proofs.Laws.{and-both, pack-unpack, fitting-unpack}
 use Rattle.layout.proofs.Reading.{bits-number}
-use Rattle.capi_startup.specs.Kept.{word}
 
 -- behind the bytes p
 bit-back : (p q : List ℕ) (at : ℕ) → bitAt (p ++ q) (8 * length p + at) ≡ bitAt q at
@@ -39,15 +38,14 @@ pub byte-read : (a : ℕ) (l : List ℕ) → a < 256 → bitsAt (a ∷ l) 0 8 �
 byte-read a l h =
     bits-front (a ∷ []) l 0 8 (omega arith) ∙ bits-number (a ∷ []) (and-both (lt-ltb a 256 h) refl) 0 8 0 refl ∙ omega arith
 
--- the four bytes of a word are those of a layout
-as-unpacked : (x : ℕ) → word x ≡ unpack (bytes 4) x
-as-unpacked x = ap (λ (v : ℕ). x / 16777216 % 256 ∷ x / 65536 % 256 ∷ x / 256 % 256 ∷ v % 256 ∷ []) (sym (div-one x))
+-- the four bytes of a number
+abbrev pub word : ℕ → List ℕ
+word = unpack (bytes 4)
 
 in-word : (x : ℕ) → x < 4294967296 → x % 4294967296 / 1 % 4294967296 ≡ x
 in-word x h = omega arith
 
 pub word-read : (x : ℕ) (l : List ℕ) → x < 4294967296 → bitsAt (word x ++ l) 0 32 ≡ x
 word-read x l h =
-    let b : Bytes (word x) = ap (fitting (bytes 4)) (as-unpacked x) ∙ fitting-unpack (bytes 4) x in
-    let n : num (word x) ≡ x % 4294967296 = ap (pack (bytes 4)) (as-unpacked x) ∙ pack-unpack (bytes 4) x in
-    bits-front (word x) l 0 32 (omega arith) ∙ bits-number (word x) b 0 32 0 refl ∙ ap (λ (v : ℕ). v / 1 % 4294967296) n ∙ in-word x h
+    bits-front (word x) l 0 32 (omega arith) ∙ bits-number (word x) (fitting-unpack (bytes 4) x) 0 32 0 refl
+    ∙ ap (λ (v : ℕ). v / 1 % 4294967296) (pack-unpack (bytes 4) x) ∙ in-word x h

@@ -2,13 +2,14 @@
 -- unmet readings of its wait, 23 to 26 all readings used, 27 its phase; and what came of the last call: 28 how it went, 29 the refusal number,
 -- 30 the step that it names, 31 zero. A call doesn't look at the last four.
 -- Assumes nothing.
-use Prim.Native.Nat.{ℕ, _/_, _%_}
+use Prim.Native.Nat.{ℕ}
 use mathlib.Core.Bool.{cond, _||_}
 use mathlib.Core.List.{List, [], _∷_, _++_}
 use lib.Dec.{eqb}
 use lib.ListN.{take, drop}
 use Rattle.answer.specs.Answer.{Answer, gives, _>>=_}
 use Rattle.layout.specs.Bits.{bitsAt}
+use Rattle.layout.specs.Layout.{unpack, bytes}
 use Rattle.v4x7.specs.declared.Config.{Config}
 use Rattle.profile.specs.Profile.{readProfile, profileBytes}
 use Rattle.image.specs.declared.Fields.{Fields}
@@ -66,14 +67,10 @@ keptOf l = do
   f ← readImage (take 8 (drop 10 l))
   gives (standingOf c f l)
 
--- a number of 32 bits as four bytes, the most significant first
-abbrev pub word : ℕ → List ℕ
-word x = x / 16777216 % 256 ∷ x / 65536 % 256 ∷ x / 256 % 256 ∷ x % 256 ∷ []
-
 -- the place of a startup, with what came of the last call
 unfoldable pub tailOf : Stepped → List ℕ
 tailOf x =
-    x .startup .step ∷ (word (x .startup .unmet) ++ (word (x .startup .used) ++ (tagOf (x .startup .phase)
+    x .startup .step ∷ (unpack (bytes 4) (x .startup .unmet) ++ (unpack (bytes 4) (x .startup .used) ++ (tagOf (x .startup .phase)
     ∷ wentOf (x .report) ∷ numberOf (x .report) ∷ namedStep (x .report) ∷ 0 ∷ [])))
 
 unfoldable pub placeOf : Stepped → Answer (List ℕ)

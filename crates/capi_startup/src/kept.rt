@@ -106,12 +106,12 @@ fn standing(config: Config, fields: Fields, place: &[u8]) -> Startup
     ensures { λ r. ⌜ r ≡ standingOf config fields (now (place .entry)) ⌝ }
 {
     let step = layout::code(place, PLACE_STEP * 8, 8);
-    let used = layout::bits(place, PLACE_USED * 8, 32) as u32;
+    let used = layout::word(place, PLACE_USED * 8);
     Startup {
         config,
         fields,
         step,
-        unmet: layout::bits(place, PLACE_UNMET * 8, 32) as u32,
+        unmet: layout::word(place, PLACE_UNMET * 8),
         used,
         phase: phase(layout::code(place, PLACE_PHASE * 8, 8), step, used),
     }
@@ -178,16 +178,18 @@ fn tail(x: Stepped) -> [u8; 14]
     let startup = x.startup;
     let phase = startup.phase;
     let report = x.report;
+    let unmet = layout::four_bytes(startup.unmet);
+    let used = layout::four_bytes(startup.used);
     let mut t = [
         startup.step,
-        (startup.unmet / 0x100_0000 % 256) as u8,
-        (startup.unmet / 0x1_0000 % 256) as u8,
-        (startup.unmet / 0x100 % 256) as u8,
-        (startup.unmet % 256) as u8,
-        (startup.used / 0x100_0000 % 256) as u8,
-        (startup.used / 0x1_0000 % 256) as u8,
-        (startup.used / 0x100 % 256) as u8,
-        (startup.used % 256) as u8,
+        unmet[0],
+        unmet[1],
+        unmet[2],
+        unmet[3],
+        used[0],
+        used[1],
+        used[2],
+        used[3],
         tag(phase),
         0,
         0,

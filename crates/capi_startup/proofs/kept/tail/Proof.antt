@@ -5,10 +5,15 @@ use Rattle.capi_startup.proofs.kept.tail.Tie as tie
 
 returns : tie.Need-returns
 unfolding tailOf
-returns c = rw ((c .before .before .before .tag .ensures), (c .before .before .went .ensures), (c .before .number .ensures), (c .named-step .ensures))
+returns c =
+    rw (
+      c .before .before .before .before .before .four-bytes .ensures,
+      c .before .before .before .before .four-bytes2 .ensures,
+      c .before .before .before .tag .ensures,
+      c .before .before .went .ensures,
+      c .before .number .ensures,
+      c .named-step .ensures,
+    )
 
 pub tail-spec : {M : Type 1} → statement M
-tail-spec =
-    tie.close
-    (tie.spec (search needs) (search needs) (search needs) (search needs) (search needs) (search needs) (search needs) (search needs) (search needs)
-    (search needs) (search needs) (search needs) (search needs) (search needs) (search needs) (search needs) (search needs) (search needs) returns)
+tail-spec = tie.close (search (tie.spec, needs, returns))
