@@ -1,14 +1,14 @@
 -- Demand 3 of the calls for C, shown. Assumes nothing.
 use Prim.Native.Nat.{ℕ, zero, suc, _+_, _≤_, _<_}
 use mathlib.Core.Path.{_≡_, refl, sym, ap, _∙_, subst}
-use mathlib.Core.Bool.{true, false, not}
+use mathlib.Core.Bool.{true, false}
 use mathlib.Core.List.{List, _++_}
 use native.Mathlib.Omega.{arith}
-use borrow.Author.Tests.{le-ltb, not-false}
+use borrow.Author.Tests.{le-ltb}
 use lib.Dec.{eqb, lit<}
 use lib.ListN.{length, drop, getD, length-append, List·getD-append}
 use lib.Seq.{drop-at, getD-append-add}
-use Rattle.answer.specs.Answer.{Answer, gives, bound, passed}
+use Rattle.answer.specs.Answer.{Answer, gives, bound}
 use Rattle.layout.specs.Layout.{packed}
 use Rattle.layout.specs.Lent.{written, after}
 use Rattle.v4x7.specs.declared.Config.{Config}
@@ -48,10 +48,6 @@ given-all b l l′ k m h e g = ((rw (le-ltb (length l) 32 h, e) at (g .number)),
 image-given : (f : Fields) → inWidth f ≡ true → imageBytes f ≡ gives (packed 8 widths (listOf f))
 unfolding imageBytes
 image-given f h = rw h
-
-image-width : (f : Fields) (i : List ℕ) → imageBytes f ≡ gives i → inWidth f ≡ true
-unfolding imageBytes
-image-width f i e = not-false (inWidth f) (passed 28 (not (inWidth f)) (gives (packed 8 widths (listOf f))) e .failed)
 
 -- a place is a profile, an image and the tail
 record Parts (y : Stepped) (b : List ℕ) : Type 0 where
@@ -207,8 +203,7 @@ module _ (c : Config) {x : ClockRecord} (q : checkOf c ≡ gives x) (p : List �
 
 pub demand3-in-c : Demand3InC
 demand3-in-c p i l bp bi h c e x q f o ws r rs m g =
-    let w = image-width f i (image.inverse .write-read i f bi o) in
-    served c q p (profile.inverse .write-read p c bp e) i f w e o l h ws r rs m g
+    served c q p (profile.inverse .write-read p c bp e) i f (image.read-in-width i f bi o) e o l h ws r rs m g
 
 -- the lent bytes after n calls
 unfoldable found : (ℕ → ℕ) → List ℕ → ℕ → List ℕ

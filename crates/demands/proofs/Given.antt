@@ -99,7 +99,7 @@ checks =
     by-row checkOf inputs checkGiven refl
 
 -- fields: SWS, PLLSRC, PLLMUL, USBHSPLLSRC, USBHSPLLCLK, SYSPLLSRC; the rest clear
-abbrev fields : ℕ → Bool → ℕ → ℕ → ℕ → ℕ → Fields
+abbrev pub fields : ℕ → Bool → ℕ → ℕ → ℕ → ℕ → Fields
 fields sws pllsrc pllmul usbhssrc usbhsclk syspllsrc =
     record {
       ctlr = record { hsion = false; hsebyp = false; hseon = false; csson = false; pllon = false; «usbhs_pllon» = false; «eth_pllon» = false };

@@ -27,6 +27,7 @@ use Rattle.startup.specs.declared.Phase.the-variants.{Going}
 use Rattle.startup.specs.declared.Startup.{Startup}
 use Rattle.demands.specs.Runs.{Readings, run, mostCalls}
 use Rattle.demands.specs.Third.{begun, bound, Reached}
+use Rattle.demands.proofs.Given.{fields}
 use Rattle.demands.proofs.Machine.{machine}
 use Rattle.demands.proofs.Slow.{Slow, slowest, slow}
 use Rattle.demands.proofs.Width.{wide}
@@ -69,15 +70,7 @@ accepted = refl
 
 -- All fields clear.
 abbrev pub clear : Fields
-clear =
-    record {
-      ctlr = record { hsion = false; hsebyp = false; hseon = false; csson = false; pllon = false; «usbhs_pllon» = false; «eth_pllon» = false };
-      seen = record { hsirdy = false; hserdy = false; pllrdy = false; «usbhs_pllrdy» = false; «eth_pllrdy» = false; sws = 0 };
-      cfgr0 = record { sw = 0; pllsrc = false; pllmul = 0; hpre = 0; ppre1 = 0; ppre2 = 0; adcpre = 0; adcsrc = false; «adc_duty» = 0 };
-      cfgr2 = record { usbhspllsrc = 0; usbhspllclk = 0; syspllsrc = 0; sysplldiv = 0; «syspll_gate» = false; rngsrc = false; i2spllsrc = false };
-      cfgr3 = record { «adc_clkdiv» = 0 };
-      flash = record { sckmod = 0; lock = false; flock = false };
-    }
+clear = fields 0 false 0 0 0 0
 
 pub clear-width : inWidth clear ≡ true
 unfolding inWidths
@@ -85,7 +78,7 @@ clear-width = refl
 
 -- A reading with nothing ready, and one with all ready and SYSPLL in use; SCKMOD 0 for 100 MHz.
 abbrev dark : Reading
-dark = record { seen = record { hsirdy = false; hserdy = false; pllrdy = false; «usbhs_pllrdy» = false; «eth_pllrdy» = false; sws = 0 }; sckmod = 0 }
+dark = record { seen = clear .seen; sckmod = 0 }
 
 abbrev bright : Reading
 bright = record { seen = record { hsirdy = true; hserdy = true; pllrdy = true; «usbhs_pllrdy» = true; «eth_pllrdy» = true; sws = 2 }; sckmod = 0 }
