@@ -19,4 +19,5 @@ returns-3 c =
 pub give-fields-spec : {M : Type 1} → statement M
 give-fields-spec =
     tie.close
-    (tie.spec (λ c. short _ _ _ (c .if1 .taken)) (search needs) (search needs) (search needs) (search needs) (search needs) returns-2 (search needs) returns-3)
+    (tie.spec (λ c. short _ _ _ (c .if1 .taken))
+    (search needs) (search needs) (search needs) (search needs) (search needs) returns-2 (search needs) returns-3)
