@@ -19,7 +19,7 @@ use Rattle.startup.specs.declared.Phase.the-variants.{Going, Over}
 use Rattle.startup.specs.declared.Startup.{Startup}
 use Rattle.startup.specs.declared.Stepped.{Stepped}
 use Rattle.startup.specs.Call.{numberOf, namedStep}
-use Rattle.capi_startup.specs.Kept.{phaseOf, tagOf, wentOf, standingOf, keptOf, tailOf, placeOf}
+use Rattle.capi_startup.specs.Kept.{phaseOf, tagOf, reportTag, standingOf, keptOf, tailOf, placeOf}
 use Rattle.capi_demands.specs.Place.{HeldPhase, Storable, ReadsBack}
 use Rattle.capi_demands.proofs.Bits.{bits-back, byte-read, word, word-read}
 
@@ -62,7 +62,7 @@ module _ (x : Stepped) (p i rest : List ℕ) (a : length p ≡ 10) (b : length i
   st = x .startup
 
   abbrev ends : List ℕ
-  ends = wentOf (x .report) ∷ numberOf (x .report) ∷ namedStep (x .report) ∷ 0 ∷ rest
+  ends = reportTag (x .report) ∷ numberOf (x .report) ∷ namedStep (x .report) ∷ 0 ∷ rest
 
   step-again : bitsAt l 144 8 ≡ st .step
   unfolding tailOf

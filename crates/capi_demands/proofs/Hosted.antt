@@ -101,7 +101,7 @@ tells : (y : Stepped) (rest l : List ℕ) → Shows y rest l → Tells y l
 unfolding tailOf
 tells y rest l s =
     let byte = tail-byte y rest l s in
-    record { phase = byte 9 (lit< tt); went = byte 10 (lit< tt); number = byte 11 (lit< tt); step = byte 12 (lit< tt) }
+    record { phase = byte 9 (lit< tt); report = byte 10 (lit< tt); number = byte 11 (lit< tt); step = byte 12 (lit< tt) }
 
 module _ (c : Config) {x : ClockRecord} (q : checkOf c ≡ gives x) (p : List ℕ) (packs : profileBytes c ≡ gives p) where
   abbrev P : List Entry

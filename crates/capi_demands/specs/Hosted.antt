@@ -18,7 +18,7 @@ use Rattle.startup.specs.Call.{numberOf, namedStep, stepOf}
 use Rattle.demands.specs.Runs.{Readings, run}
 use Rattle.demands.specs.Third.{begun, bound, Shown}
 use Rattle.capi_give.specs.Given.{Given}
-use Rattle.capi_startup.specs.Kept.{tagOf, wentOf, keptOf, placeOf}
+use Rattle.capi_startup.specs.Kept.{tagOf, reportTag, keptOf, placeOf}
 use Rattle.capi_startup.specs.Calls.{readingOf, begunWith, startBytes, stepBytes}
 use Rattle.capi.specs.Owed.{callsRead}
 
@@ -37,7 +37,7 @@ pub record Shows (x : Stepped) (rest l : List ℕ) : Type 0 where
 -- What a host reads of them: byte 27 is the phase, 28 how the last call went, 29 the refusal number and 30 the step that it names.
 pub record Tells (x : Stepped) (l : List ℕ) : Type 0 where
   pub phase : getD l 27 0 ≡ tagOf (x .startup .phase)
-  pub went : getD l 28 0 ≡ wentOf (x .report)
+  pub report : getD l 28 0 ≡ reportTag (x .report)
   pub number : getD l 29 0 ≡ numberOf (x .report)
   pub step : getD l 30 0 ≡ namedStep (x .report)
 

@@ -42,12 +42,12 @@ tagOf Going = 0
 tagOf (Over last) = lastTag last
 
 -- how a call went: 0 the step is worked, 1 waiting, 2 over and running, 3 over by a refusal
-abbrev pub wentOf : Report → ℕ
-wentOf (Worked step used) = 0
-wentOf (Waiting step used) = 1
-wentOf (Running step used) = 2
-wentOf (Failed number step used) = 3
-wentOf (Refused number) = 3
+abbrev pub reportTag : Report → ℕ
+reportTag (Worked step used) = 0
+reportTag (Waiting step used) = 1
+reportTag (Running step used) = 2
+reportTag (Failed number step used) = 3
+reportTag (Refused number) = 3
 
 -- what the place holds behind profile and image
 unfoldable pub standingOf : Config → Fields → List ℕ → Startup
@@ -71,7 +71,7 @@ keptOf l = do
 unfoldable pub tailOf : Stepped → List ℕ
 tailOf x =
     x .startup .step ∷ (unpack (bytes 4) (x .startup .unmet) ++ (unpack (bytes 4) (x .startup .used) ++ (tagOf (x .startup .phase)
-    ∷ wentOf (x .report) ∷ numberOf (x .report) ∷ namedStep (x .report) ∷ 0 ∷ [])))
+    ∷ reportTag (x .report) ∷ numberOf (x .report) ∷ namedStep (x .report) ∷ 0 ∷ [])))
 
 unfoldable pub placeOf : Stepped → Answer (List ℕ)
 placeOf x = do

@@ -5,7 +5,7 @@ ghost use Prim.Native.Nat.{_≤_};
 ghost use lib.ListN.{length};
 ghost use Rattle.startup.specs.Call.{startedSays};
 ghost use Rattle.capi_give.specs.Given.{Given};
-ghost use Rattle.capi_startup.specs.Kept.{phaseOf, lastTag, tagOf, wentOf, standingOf, keptOf, tailOf, placeOf};
+ghost use Rattle.capi_startup.specs.Kept.{phaseOf, lastTag, tagOf, reportTag, standingOf, keptOf, tailOf, placeOf};
 use crate::PHASE_GOING;
 use crate::PHASE_RUNNING;
 use crate::PLACE_IMAGE;
@@ -85,8 +85,8 @@ fn tag(phase: Phase) -> u8
 }
 
 // What came of a call, in one byte.
-fn went(report: Report) -> u8
-    ensures { λ r. ⌜ r ≡ wentOf report ⌝ }
+fn report_tag(report: Report) -> u8
+    ensures { λ r. ⌜ r ≡ reportTag report ⌝ }
 {
     match report {
         Report::Worked { step: _, used: _ } => REPORT_WORKED,
@@ -196,7 +196,7 @@ fn tail(x: Stepped) -> [u8; 14]
         0,
         0,
     ];
-    t[PLACE_REPORT - PLACE_STEP] = went(report);
+    t[PLACE_REPORT - PLACE_STEP] = report_tag(report);
     t[PLACE_NUMBER - PLACE_STEP] = number(report);
     t[PLACE_NAMED - PLACE_STEP] = named_step(report);
     t

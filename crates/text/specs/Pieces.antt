@@ -71,15 +71,15 @@ end-within {p} {xs} {l} {l′} {r} {n} w q =
     omega (arith, ltb-false (length l) (room .value + length xs) (fits .failed), placed-length w)
 
 -- What several pieces come to: they stand there where there is room for all of them; and the bytes are no more and no fewer.
-pub record Went (l : List ℕ) (at : ℕ) (xs l′ : List ℕ) (r : Put) : Type 0 where
+pub record Joined (l : List ℕ) (at : ℕ) (xs l′ : List ℕ) (r : Put) : Type 0 where
   pub size : length l′ ≡ length l
   pub stands : at + length xs ≤ length l → Stands l at xs l′ r
 
-pub went : {p : Put} {at : ℕ} {xs l l′ : List ℕ} {r : Put} → p ≡ At at → Placed p xs l l′ r → Went l at xs l′ r
-went {xs = xs} {l = l} q w = record { size = placed-length w; stands = stood q xs l w }
+pub one-piece : {p : Put} {at : ℕ} {xs l l′ : List ℕ} {r : Put} → p ≡ At at → Placed p xs l l′ r → Joined l at xs l′ r
+one-piece {xs = xs} {l = l} q w = record { size = placed-length w; stands = stood q xs l w }
 
 -- one text, and then another from where it ended
-pub then : {l xs l₁ ys l₂ : List ℕ} {at : ℕ} {q r : Put} → Went l at xs l₁ q → Placed q ys l₁ l₂ r → Went l at (xs ++ ys) l₂ r
+pub then : {l xs l₁ ys l₂ : List ℕ} {at : ℕ} {q r : Put} → Joined l at xs l₁ q → Placed q ys l₁ l₂ r → Joined l at (xs ++ ys) l₂ r
 then {l} {xs} {l₁} {ys} {l₂} {at} {q} {r} a b = record { size = placed-length b ∙ a .size; stands = both }
   where
     both : at + length (xs ++ ys) ≤ length l → Stands l at (xs ++ ys) l₂ r

@@ -10,7 +10,7 @@ returns c =
       c .before .before .before .before .before .four-bytes .ensures,
       c .before .before .before .before .four-bytes2 .ensures,
       c .before .before .before .tag .ensures,
-      c .before .before .went .ensures,
+      c .before .before .report-tag .ensures,
       c .before .number .ensures,
       c .named-step .ensures,
     )
