@@ -9,7 +9,8 @@ use lib.ListN.{length, getD, List·getD-append}
 use lib.Seq.{getD-append-add}
 use Rattle.layout.specs.Bits.{bitAt, bitsAt}
 use Rattle.layout.specs.Layout.{unpack, bytes}
-use Rattle.layout.proofs.Laws.{and-both, pack-unpack, fitting-unpack}
+use Rattle.answer.specs.Tools.{and-both}
+use Rattle.layout.proofs.Laws.{pack-unpack, fitting-unpack}
 use Rattle.layout.proofs.Reading.{bits-number}
 
 -- behind the bytes p

@@ -2,7 +2,9 @@
 use answer::Outcome;
 ghost use mathlib.Core.Path.{_≡_};
 ghost use Rattle.layout.specs.Lent.{Wrote};
-ghost use Rattle.image.specs.Image.{ctlrOf, seenOf, cfgr0Of, cfgr2Of, flashOf, fieldsOf, listOf, inWidth, readImageSays, readImage, imageBytes};
+ghost use lib.ListN.{getD};
+ghost use Rattle.layout.specs.Bits.{cut};
+ghost use Rattle.image.specs.Image.{widths, ctlrOf, seenOf, cfgr0Of, cfgr2Of, flashOf, fieldsOf, listOf, inWidth, readImageSays, readImage, imageBytes};
 
 // CTLR: what switches the oscillators and PLLs on.
 pub struct Ctlr {
@@ -112,84 +114,93 @@ pub const WIDTHS: [u8; 34] = [
     5, // filling
 ];
 
-// The fields of each register, by their place in the list of fields.
-fn ctlr_of(xs: [u8; 34]) -> Ctlr
-    ensures { λ r. ⌜ r ≡ ctlrOf xs ⌝ }
+// The field k of an image, by its place in the list of widths.
+fn field(s: &[u8], k: usize) -> u8
+    ensures { λ r. ⌜ r ≡ getD (cut widths (now (s .entry)) 0) k 0 ⌝ }
+{
+    layout::field(&WIDTHS, s, k)
+}
+
+// The fields of each register.
+fn ctlr_of(s: &[u8]) -> Ctlr
+    ensures { λ r. ⌜ r ≡ ctlrOf (cut widths (now (s .entry)) 0) ⌝ }
 {
     Ctlr {
-        hsion: xs[0] == 1,
-        hsebyp: xs[1] == 1,
-        hseon: xs[2] == 1,
-        csson: xs[3] == 1,
-        pllon: xs[4] == 1,
-        usbhs_pllon: xs[5] == 1,
-        eth_pllon: xs[6] == 1,
+        hsion: field(s, 0) == 1,
+        hsebyp: field(s, 1) == 1,
+        hseon: field(s, 2) == 1,
+        csson: field(s, 3) == 1,
+        pllon: field(s, 4) == 1,
+        usbhs_pllon: field(s, 5) == 1,
+        eth_pllon: field(s, 6) == 1,
     }
 }
 
-fn seen_of(xs: [u8; 34]) -> Seen
-    ensures { λ r. ⌜ r ≡ seenOf xs ⌝ }
+fn seen_of(s: &[u8]) -> Seen
+    ensures { λ r. ⌜ r ≡ seenOf (cut widths (now (s .entry)) 0) ⌝ }
 {
     Seen {
-        hsirdy: xs[7] == 1,
-        hserdy: xs[8] == 1,
-        pllrdy: xs[9] == 1,
-        usbhs_pllrdy: xs[10] == 1,
-        eth_pllrdy: xs[11] == 1,
-        sws: xs[12],
+        hsirdy: field(s, 7) == 1,
+        hserdy: field(s, 8) == 1,
+        pllrdy: field(s, 9) == 1,
+        usbhs_pllrdy: field(s, 10) == 1,
+        eth_pllrdy: field(s, 11) == 1,
+        sws: field(s, 12),
     }
 }
 
-fn cfgr0_of(xs: [u8; 34]) -> Cfgr0
-    ensures { λ r. ⌜ r ≡ cfgr0Of xs ⌝ }
+fn cfgr0_of(s: &[u8]) -> Cfgr0
+    ensures { λ r. ⌜ r ≡ cfgr0Of (cut widths (now (s .entry)) 0) ⌝ }
 {
     Cfgr0 {
-        sw: xs[13],
-        pllsrc: xs[14] == 1,
-        pllmul: xs[15],
-        hpre: xs[16],
-        ppre1: xs[17],
-        ppre2: xs[18],
-        adcpre: xs[19],
-        adcsrc: xs[20] == 1,
-        adc_duty: xs[21],
+        sw: field(s, 13),
+        pllsrc: field(s, 14) == 1,
+        pllmul: field(s, 15),
+        hpre: field(s, 16),
+        ppre1: field(s, 17),
+        ppre2: field(s, 18),
+        adcpre: field(s, 19),
+        adcsrc: field(s, 20) == 1,
+        adc_duty: field(s, 21),
     }
 }
 
-fn cfgr2_of(xs: [u8; 34]) -> Cfgr2
-    ensures { λ r. ⌜ r ≡ cfgr2Of xs ⌝ }
+fn cfgr2_of(s: &[u8]) -> Cfgr2
+    ensures { λ r. ⌜ r ≡ cfgr2Of (cut widths (now (s .entry)) 0) ⌝ }
 {
     Cfgr2 {
-        usbhspllsrc: xs[22],
-        usbhspllclk: xs[23],
-        syspllsrc: xs[24],
-        sysplldiv: xs[25],
-        syspll_gate: xs[26] == 1,
-        rngsrc: xs[27] == 1,
-        i2spllsrc: xs[28] == 1,
+        usbhspllsrc: field(s, 22),
+        usbhspllclk: field(s, 23),
+        syspllsrc: field(s, 24),
+        sysplldiv: field(s, 25),
+        syspll_gate: field(s, 26) == 1,
+        rngsrc: field(s, 27) == 1,
+        i2spllsrc: field(s, 28) == 1,
     }
 }
 
-fn flash_of(xs: [u8; 34]) -> Flash
-    ensures { λ r. ⌜ r ≡ flashOf xs ⌝ }
+fn flash_of(s: &[u8]) -> Flash
+    ensures { λ r. ⌜ r ≡ flashOf (cut widths (now (s .entry)) 0) ⌝ }
 {
     Flash {
-        sckmod: xs[30],
-        lock: xs[31] == 1,
-        flock: xs[32] == 1,
+        sckmod: field(s, 30),
+        lock: field(s, 31) == 1,
+        flock: field(s, 32) == 1,
     }
 }
 
-fn fields_of(xs: [u8; 34]) -> Fields
-    ensures { λ r. ⌜ r ≡ fieldsOf xs ⌝ }
+fn fields_of(s: &[u8]) -> Fields
+    ensures { λ r. ⌜ r ≡ fieldsOf (cut widths (now (s .entry)) 0) ⌝ }
 {
     Fields {
-        ctlr: ctlr_of(xs),
-        seen: seen_of(xs),
-        cfgr0: cfgr0_of(xs),
-        cfgr2: cfgr2_of(xs),
-        cfgr3: Cfgr3 { adc_clkdiv: xs[29] },
-        flash: flash_of(xs),
+        ctlr: ctlr_of(s),
+        seen: seen_of(s),
+        cfgr0: cfgr0_of(s),
+        cfgr2: cfgr2_of(s),
+        cfgr3: Cfgr3 {
+            adc_clkdiv: field(s, 29),
+        },
+        flash: flash_of(s),
     }
 }
 
@@ -200,12 +211,10 @@ pub fn read_image(s: &[u8]) -> ReadImage
     if s.len() != 8 {
         return ReadImage::Refused(answer::IMAGE_LENGTH_OR_FILLING);
     }
-    let mut xs = [0u8; 34];
-    layout::load(&WIDTHS, s, &mut xs);
-    if xs[33] != 0 {
+    if field(s, 33) != 0 {
         return ReadImage::Refused(answer::IMAGE_LENGTH_OR_FILLING);
     }
-    ReadImage::Image(fields_of(xs))
+    ReadImage::Image(fields_of(s))
 }
 
 // Is every code within its field's width? The decoder and the startup ask this too.

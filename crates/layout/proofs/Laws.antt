@@ -13,18 +13,8 @@ use lib.Seq.{drop-cons, take-suc, length-take-le}
 use lib.Pow.{pow-pos, pow-add, mod-pow-add}
 use lib.Arith.{digits-lt, digits-div}
 use borrow.Author.Tests.{ltb-true, lt-ltb}
+use Rattle.answer.specs.Tools.{and-left, and-right, and-both}
 use Rattle.layout.specs.Layout.{total, unpack, pack, fitting, fieldFits, fieldsFit, bytes, num, Bytes}
-
-pub and-left : (a b : Bool) → a && b ≡ true → a ≡ true
-and-left true b h = refl
-and-left false b h = h
-
-pub and-right : (a b : Bool) → a && b ≡ true → b ≡ true
-and-right true b h = h
-and-right false b h = let z : false ≡ true = h in cc
-
-pub and-both : {a b : Bool} → a ≡ true → b ≡ true → a && b ≡ true
-and-both h k = rw (h, k)
 
 pub and-true : (a : Bool) → a && true ≡ a
 and-true true = refl
@@ -99,11 +89,6 @@ pack-append (u ∷ us) ws (x ∷ xs) ys h =
     rw (total-append us ws, pow-add 2 (total us) (total ws), pack-append us ws xs ys (omega arith), ← mul-assoc x p q) (omega (arith, d))
 
 -- ---- bytes
-
--- bytes are below 256
-pub fitting-bytes : (s : List ℕ) → ((i : ℕ) → i < length s → getD s i 0 < 256) → fitting (bytes (length s)) s ≡ true
-fitting-bytes [] h = refl
-fitting-bytes (x ∷ s) h = and-both (lt-ltb x 256 (h 0 (omega arith))) (fitting-bytes s (λ i k. h (suc i) (omega arith)))
 
 pub total-bytes : (n : ℕ) → total (bytes n) ≡ 8 * n
 total-bytes zero = refl

@@ -7,14 +7,15 @@ use Prim.Native.Nat.{ℕ, zero, suc, _+_, _-_, _*_, _/_, _%_, _^_, _≤_, _<_}
 use native.Mathlib.Nat.{le-refl, le-antisymm, mod-one, mod-eq-of-lt, pow-suc, mul-assoc, mul-add-div-right, mul-add-mod-self-right}
 use native.Mathlib.Numerals.{add-one}
 use native.Mathlib.Omega.{arith}
-use borrow.Author.Tests.{ltb-false}
+use borrow.Author.Tests.{ltb-false, lt-ltb}
 use lib.ListN.{length, getD, length-replicate}
 use lib.Dec.{ltb, eqb}
 use lib.Pow.{pow-pos, pow-add, shr-shr, mod-pow-add}
 use lib.Arith.{digits-div}
+use Rattle.answer.specs.Tools.{and-right}
 use Rattle.layout.specs.Layout.{total, unpack, pack, fitting, bytes, num, Bytes, packed}
 use Rattle.layout.specs.Bits.{bit, bitAt, bitsAt, cut, upTo}
-use Rattle.layout.proofs.Laws.{and-right, pack-lt, pack-unpack, unpack-pack, fitting-unpack, length-unpack, num-unpack, total-bytes}
+use Rattle.layout.proofs.Laws.{pack-lt, pack-unpack, unpack-pack, fitting-unpack, length-unpack, num-unpack, total-bytes}
 
 -- a bit and its number
 pub flag-of-bit : (b : Bool) → eqb (bit b) 1 ≡ b
@@ -39,6 +40,13 @@ below limit n false e = ltb-false n limit e
 
 pub up-to-below : (limit n : ℕ) → upTo limit n ≤ n
 up-to-below limit n = below limit n (ltb n limit) refl
+
+above : (limit n k : ℕ) (b : Bool) → ltb n limit ≡ b → cond b n limit ≤ k → k < limit → n ≤ k
+above limit n k true e h l = h
+above limit n k false e h l = absurd (omega arith)
+
+pub up-to-above : (limit n k : ℕ) → upTo limit n ≤ k → k < limit → n ≤ k
+up-to-above limit n k = above limit n k (ltb n limit) refl
 
 all : (limit n : ℕ) → n ≤ limit → (b : Bool) → ltb n limit ≡ b → cond b n limit ≡ n
 all limit n h true e = refl
@@ -86,6 +94,36 @@ bits-number s b at (suc n) r h =
     let k : bitAt s (at + n) ≡ v % 2 = bit-number s b ((at + n) / 8) ((at + n) % 8) r (omega arith) (omega arith) in
     ap₂ (λ (x y : ℕ). x * 2 + y) i k ∙ ap (λ (x : ℕ). x % 2 ^ n * 2 + v % 2) (sym (shr-shr (num s) r 1)) ∙ sym (mod-pow-add v n 1)
     ∙ ap (λ (m : ℕ). v % 2 ^ m) (add-one n)
+
+-- at most eight bits lie in two bytes
+module _ (s : List ℕ) (at : ℕ) where
+  pair : List ℕ
+  pair = getD s (at / 8) 0 ∷ getD s (at / 8 + 1) 0 ∷ []
+
+  byte-in : (j : ℕ) → j < 2 → getD s (at / 8 + j) 0 ≡ getD pair j 0
+  unfolding pair
+  byte-in zero h = ap (λ (k : ℕ). getD s k 0) (omega arith)
+  byte-in (suc zero) h = refl
+  byte-in (suc (suc j)) h = absurd (omega arith)
+
+  bit-in : (n q : ℕ) → at % 8 + n ≡ q → q < 16 → bitAt s (at + n) ≡ bitAt pair q
+  bit-in n q e h =
+      let j : (at + n) / 8 ≡ at / 8 + q / 8 = omega arith in
+      let p : (at + n) % 8 ≡ q % 8 = omega arith in
+      rw (j, p, byte-in (q / 8) (omega arith))
+
+  bits-in : (n : ℕ) → at % 8 + n ≤ 16 → bitsAt s at n ≡ bitsAt pair (at % 8) n
+  unfolding bitsAt
+  bits-in zero h = refl
+  bits-in (suc n) h = ap₂ (λ (x y : ℕ). x * 2 + y) (bits-in n (omega arith)) (bit-in n (at % 8 + n) refl (omega arith))
+
+  pub bits-of-two : (a b n r : ℕ) → a ≡ getD s (at / 8) 0 → b ≡ getD s (at / 8 + 1) 0 → a < 256 → b < 256 → at % 8 + n + r ≡ 16
+      → bitsAt s at n ≡ (a * 256 + b) / 2 ^ r % 2 ^ n
+  unfolding pair
+  bits-of-two a b n r e f h k l =
+      let i : Bytes pair = rw (sym e, sym f) (simp (lt-ltb a 256 h, lt-ltb b 256 k)) in
+      let v : num pair ≡ a * 256 + b = rw (sym e, sym f) (omega arith) in
+      bits-in n (omega arith) ∙ bits-number pair i (at % 8) n r l ∙ ap (λ (x : ℕ). x / 2 ^ r % 2 ^ n) v
 
 -- the fields at a layout's places are those of the number
 cut-from : (ws s : List ℕ) → Bytes s → (at : ℕ) → at + total ws ≡ 8 * length s → cut ws s at ≡ unpack ws (num s)

@@ -38,6 +38,10 @@ abbrev pub narrowed : List ℕ → List ℕ
 narrowed [] = []
 narrowed (w ∷ ws) = upTo 8 w ∷ narrowed ws
 
+-- the field k of a layout's first 256; 0 after the last
+abbrev pub fieldAt : List ℕ → List ℕ → ℕ → ℕ
+fieldAt ws s k = getD (cut (narrowed (take 256 ws)) s 0) k 0
+
 -- the lent bytes l after a load of n fields, and how many are loaded: those for which a byte is lent, and at most 256
 abbrev pub loading : ℕ → List ℕ → List ℕ → List ℕ → List ℕ
 loading n ws s l = cut (narrowed (take n ws)) s 0 ++ drop n l

@@ -2,8 +2,8 @@
 ghost use mathlib.Core.Path.{_≡_};
 ghost use mathlib.Core.List.{[], _∷_};
 ghost use Prim.Native.Nat.{_+_, _*_, _^_, _≤_, _<_};
-ghost use lib.ListN.{length};
-ghost use Rattle.layout.specs.Bits.{bitAt, bitsAt, flagAt, upTo, loaded};
+ghost use lib.ListN.{length, getD};
+ghost use Rattle.layout.specs.Bits.{bitAt, bitsAt, flagAt, upTo, fieldAt, loaded};
 ghost use Rattle.layout.specs.Layout.{num, unpack, bytes, fieldFits, storable};
 ghost use Rattle.layout.specs.Gathered.{Fits, Gathers};
 ghost use Rattle.layout.specs.Stored.{Stored};
@@ -24,7 +24,7 @@ fn wide(x: u8) -> u64
 
 // A power of two.
 fn two(k: u8) -> u64
-    requires { ⌜ k ≤ 8 ⌝ }
+    requires { ⌜ k ≤ 16 ⌝ }
     ensures { λ r. ⌜ r ≡ 2 ^ k ⌝ }
 {
     1 << k
@@ -37,22 +37,24 @@ fn up_to(limit: usize, n: usize) -> usize
     if n < limit { n } else { limit }
 }
 
+// The byte j. Past the end it is 0.
+fn byte(s: &[u8], j: usize) -> u64
+    ensures { λ r. ⌜ (r ≡ getD (now (s .entry)) j 0) × (r < 256) ⌝ }
+{
+    if j < s.len() { wide(s[j]) } else { 0 }
+}
+
 // The bit at place k, counted from the first bit of the byte `start`. Past the end it is 0.
 fn bit(s: &[u8], start: usize, k: usize) -> u64
     requires { ⌜ (start ≤ 2 ^ 61) × (k < 72) ⌝ }
     ensures { λ r. ⌜ (r ≡ bitAt (now (s .entry)) (start * 8 + k)) × (r < 2) ⌝ }
 {
-    let j = start + k / 8;
-    if j < s.len() {
-        let q = (7 - k % 8) as u8;
-        wide(s[j]) / two(q) % 2
-    } else {
-        0
-    }
+    let q = (7 - k % 8) as u8;
+    byte(s, start + k / 8) / two(q) % 2
 }
 
 // The number that `count` bits from place `at` on spell, most significant bit first; place 0 is the first byte's most significant bit.
-// A count above 64 reads 64 bits, and places past the end hold 0. Every field of a record is read through here.
+// A count above 64 reads 64 bits, and places past the end hold 0.
 pub fn bits(s: &[u8], at: usize, count: usize) -> u64
     ensures { λ r. ⌜ r ≡ bitsAt (now (s .entry)) at (upTo 64 count) ⌝ }
 {
@@ -76,12 +78,15 @@ pub fn flag(s: &[u8], at: usize) -> bool
     bits(s, at, 1) == 1
 }
 
-// A field of at most eight bits; a width above eight reads eight.
+// A field of at most eight bits; a width above eight reads eight. It lies in the byte that holds place `at` and the next.
 pub fn code(s: &[u8], at: usize, width: usize) -> u8
     ensures { λ r. ⌜ r ≡ bitsAt (now (s .entry)) at (upTo 8 width) ⌝ }
 {
     let n = up_to(8, width);
-    bits(s, at, n) as u8
+    let j = at / 8;
+    let pair = byte(s, j) * 256 + byte(s, j + 1);
+    let behind = (16 - at % 8 - n) as u8;
+    (pair / two(behind) % two(n as u8)) as u8
 }
 
 // The 32 bits from place `at` on.
@@ -110,6 +115,23 @@ pub fn four_bytes(x: u32) -> [u8; 4]
         (x / 0x100 % 256) as u8,
         (x % 256) as u8,
     ]
+}
+
+// The field k of a layout, cut out of the bytes s. A width above eight counts as eight, and a field after the first 256, or after the last, is 0.
+// Where list and k are constants, the compiler knows the field's place, and little is left to do.
+pub fn field(ws: &[u8], s: &[u8], k: usize) -> u8
+    ensures { λ r. ⌜ r ≡ fieldAt (now (ws .entry)) (now (s .entry)) k ⌝ }
+{
+    if up_to(256, ws.len()) <= k {
+        return 0;
+    }
+    let mut at = 0;
+    let mut i = 0;
+    while i < k {
+        at += up_to(8, ws[i] as usize);
+        i += 1;
+    }
+    code(s, at, ws[k] as usize)
 }
 
 // Loads the fields of a layout out of the bytes s, one a byte, into the first of the lent ones; those beyond stay. It is the inverse of `store`.

@@ -6,7 +6,7 @@ use mathlib.Core.List.{List, [], _∷_}
 use Prim.Native.Nat.{ℕ, _+_, _*_, _/_}
 use borrow.Author.Tests.{eqb-true}
 use lib.Dec.{eqb, leb, ltb}
-use Rattle.answer.specs.Answer.{Answer, refuses, _>>_}
+use Rattle.answer.specs.Answer.{Answer}
 use Rattle.answer.specs.Order.{Test, firstOf, bare, InOrder, only, order-gives, order-past, order-bind, order-else, OrElse, else-gives, else-not, else-order}
 use Rattle.answer.specs.Tools.{neither}
 use Rattle.answer.specs.Lists.{order-either, order-under, order-skip, order-map, only-none, only-all}

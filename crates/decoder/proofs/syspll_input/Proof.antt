@@ -55,4 +55,7 @@ unfolding sysPllInputOf
 returns-7 c = simp (c .before .before .if1 .left, c .before .if2 .left, ne-eqb _ _ (c .if3 .left))
 
 pub syspll-input-spec : {M : Type 1} → statement M
-syspll-input-spec = tie.close (tie.spec (search needs) (search needs) (search needs) (search needs) returns returns-2 (search needs) (search needs) (search needs) (search needs) returns-3 returns-4 (search needs) (search needs) (search needs) (search needs) returns-5 returns-6 returns-7)
+syspll-input-spec =
+    tie.close
+    (tie.spec (search needs) (search needs) (search needs) (search needs) returns returns-2 (search needs) (search needs) (search needs)
+    (search needs) returns-3 returns-4 (search needs) (search needs) (search needs) (search needs) returns-5 returns-6 returns-7)

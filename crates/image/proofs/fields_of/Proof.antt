@@ -4,18 +4,16 @@ use borrow.Author.Needs.{needs}
 use Rattle.image.proofs.fields_of.Statement.{statement}
 use Rattle.image.proofs.fields_of.Tie as tie
 
-returns : tie.Need-returns
-unfolding fieldsOf
-returns c =
-    rw (
-      c .before .before .before .before .ctlr-of .ensures,
-      c .before .before .before .seen-of .ensures,
-      c .before .before .cfgr0-of .ensures,
-      c .before .cfgr2-of .ensures,
-      c .flash-of .ensures,
-    )
-
 pub fields-of-spec : {M : Type 1} → statement M
+unfolding fieldsOf
 fields-of-spec =
     tie.close
-    (tie.spec (search needs) (search needs) (search needs) (search needs) (search needs) (search needs) returns)
+    (tie.spec (search needs) (search needs) (search needs) (search needs) (search needs) (search needs)
+    (λ c. rw (
+      c .before .before .before .before .before .ctlr-of .ensures,
+      c .before .before .before .before .seen-of .ensures,
+      c .before .before .before .cfgr0-of .ensures,
+      c .before .before .cfgr2-of .ensures,
+      c .before .field .ensures,
+      c .flash-of .ensures,
+    )))

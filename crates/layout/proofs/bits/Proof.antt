@@ -27,9 +27,6 @@ more s at v i b e h f k =
     let p : at / 8 * 8 + (at % 8 + i) ≡ at + i = omega arith in
     rw (add-one, pow-suc) (rw (e, f, p), omega arith)
 
-up-to-requires : tie.Need-up-to-requires Inv-loop μ-loop
-up-to-requires c κs = search needs
-
 loop-holds : tie.Need-loop-holds Inv-loop μ-loop
 unfolding bitsAt
 loop-holds c = (omega arith, (refl, omega arith))
@@ -40,23 +37,11 @@ mul-v c =
     let h = room _ _ _ (c .before .loop .inv .1 .1) (c .loop-test .taken) l in
     omega arith
 
-add-bit : tie.Need-add-bit Inv-loop μ-loop
-add-bit c = omega arith
-
-bit-requires : tie.Need-bit-requires Inv-loop μ-loop
-bit-requires c κs = (omega arith, omega arith)
-
 add-v : tie.Need-add-v Inv-loop μ-loop
 add-v c =
     let l : c .before .before .before .up-to .result ≤ 64 = omega arith in
     let h = room _ _ _ (c .before .before .loop .inv .1 .1) (c .before .loop-test .taken) l in
     omega arith
-
-add-i : tie.Need-add-i Inv-loop μ-loop
-add-i c = omega arith
-
-loop-less : tie.Need-loop-less Inv-loop μ-loop
-loop-less c = omega arith
 
 loop-again : tie.Need-loop-again Inv-loop μ-loop
 loop-again c =
@@ -74,4 +59,5 @@ returns c =
 pub bits-spec : {M : Type 1} → statement M
 bits-spec =
     tie.close
-    (tie.spec Inv-loop μ-loop up-to-requires loop-holds mul-v add-bit bit-requires add-v add-i loop-less loop-again returns)
+    (tie.spec Inv-loop μ-loop (search needs) loop-holds mul-v (λ c. omega arith) (λ c κs. (omega arith, omega arith)) add-v (λ c. omega arith)
+    (λ c. omega arith) loop-again returns)

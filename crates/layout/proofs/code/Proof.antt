@@ -1,37 +1,45 @@
--- `layout::code` meets its contract: at most eight bits were asked for, and that many spell a byte. Assumes nothing.
-use mathlib.Core.Path.{_≡_, ap, _∙_}
-use mathlib.Core.List.{List}
-use Prim.Native.Nat.{ℕ, _^_, _≤_, _<_}
+-- `layout::code` meets its contract: at most eight bits were asked for, and they lie in two bytes. Assumes nothing.
+use mathlib.Core.Path.{_≡_, sym, ap, _∙_}
+use Prim.Native.Nat.{_+_, _-_, _*_, _/_, _%_, _^_, _≤_}
 use native.Mathlib.Omega.{arith}
-use borrow.Author.Tests.{lt-ltb}
-use lib.Pow.{pow-mono}
-use Rattle.layout.specs.Bits.{bitsAt, upTo}
-use Rattle.layout.proofs.Reading.{bits-lt}
+use lib.Pow.{pow-pos, pow-mono}
+use Rattle.layout.specs.Bits.{bitsAt}
+use Rattle.layout.proofs.Reading.{bits-lt, bits-of-two}
 use borrow.Author.Needs.{needs}
 use Rattle.layout.proofs.code.Statement.{statement}
 use Rattle.layout.proofs.code.Tie as tie
 
-module _ (s : List ℕ) (at n r : ℕ) (h : n ≤ 8) (e : r ≡ bitsAt s at (upTo 64 n)) where
-  asked : upTo 64 n ≡ n
-  asked = let k : n < 64 = omega arith in simp (lt-ltb n 64 k)
-
-  given : r ≡ bitsAt s at n
-  given = e ∙ ap (bitsAt s at) asked
-
-  small : r < 256
-  small = let p : 2 ^ n ≤ 2 ^ 8 = pow-mono {i = n} {j = 8} h in omega (arith, given, bits-lt s at n)
+-- what the two bytes give
+given : (c : tie.After-two2) →
+    let a = c .before .before .before .before .before .before .args in
+    ((c .before .before .before .byte .result * 256 + c .before .before .byte2 .result) / c .before .two .result % c .two2 .result
+    ≡ bitsAt (a .s .now) (a .at) (c .before .before .before .before .up-to .result))
+given c =
+    let a = c .before .before .before .before .before .before .args in
+    let n = c .before .before .before .before .up-to in
+    let r = 16 - a .at % 8 - n .result in
+    let p = c .before .before .before in
+    let q = c .before .before in
+    rw (c .before .two .ensures, c .two2 .ensures)
+    (sym (bits-of-two (a .s .now) (a .at) _ _ (n .result) r (p .byte .ensures .0) (q .byte2 .ensures .0) (p .byte .ensures .1)
+    (q .byte2 .ensures .1) (omega arith)))
 
 cast-result : tie.Need-cast-result
 cast-result c =
-    let s = c .before .before .before in
-    let h : c .before .up-to .result ≤ 8 = omega arith in
-    omega (arith, small (s .args .s .now) (s .args .at) _ _ h (c .bits .ensures))
+    let a = c .before .before .before .before .before .before .args in
+    let n = c .before .before .before .before .up-to .result in
+    let h : n ≤ 8 = omega arith in
+    let p : 2 ^ n ≤ 2 ^ 8 = pow-mono {i = n} {j = 8} h in
+    omega (arith, given c, bits-lt (a .s .now) (a .at) n)
 
 returns : tie.Need-returns
 returns c =
-    let s = c .before .before .before in
-    let h : c .before .up-to .result ≤ 8 = omega arith in
-    given (s .args .s .now) (s .args .at) _ _ h (c .bits .ensures) ∙ ap (bitsAt (s .args .s .now) (s .args .at)) (c .before .up-to .ensures .0)
+    let s = c .before .before .before .before in
+    let a = s .before .before .args in
+    given c ∙ ap (bitsAt (a .s .now) (a .at)) (s .up-to .ensures .0)
 
 pub code-spec : {M : Type 1} → statement M
-code-spec = tie.close (tie.spec (search needs) (search needs) cast-result returns)
+code-spec =
+    tie.close
+    (tie.spec (search needs) (search needs) (search needs) (search needs) (search needs) (search needs) (search needs) (search needs) (search needs)
+    (search needs) (λ c. rw (c .two .ensures) (pow-pos _)) (search needs) (search needs) (λ c. rw (c .two2 .ensures) (pow-pos _)) cast-result returns)

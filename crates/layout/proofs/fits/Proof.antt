@@ -8,8 +8,9 @@ use borrow.Author.Tests.{not-true, not-false, leb-true}
 use lib.Dec.{eqb, leb, ltb}
 use lib.ListN.{length, drop, take, getD}
 use lib.Seq.{drop-length, take-length}
+use Rattle.answer.specs.Tools.{and-left}
 use Rattle.layout.specs.Layout.{total, fieldsFit, fieldFits, storable}
-use Rattle.layout.proofs.Laws.{and-left, fits-at, fits-fitting, fitting-length, total-next}
+use Rattle.layout.proofs.Laws.{fits-at, fits-fitting, fitting-length, total-next}
 use borrow.Author.Needs.{needs}
 use Rattle.layout.proofs.fits.Statement.{statement}
 use Rattle.layout.proofs.fits.Tie as tie
@@ -78,15 +79,6 @@ returns c = let s = c .before .before .before in unequal (s .args .ws .now) (s .
 loop-holds : tie.Need-loop-holds Inv-loop μ-loop
 loop-holds c = record { within = omega arith; same = refl; bits = refl; few = omega arith; near = omega arith }
 
-shared-slice-read-fits-in : tie.Need-shared-slice-read-fits-in Inv-loop μ-loop
-shared-slice-read-fits-in c = search needs
-
-shared-slice-read-fits-in-2 : tie.Need-shared-slice-read-fits-in-2 Inv-loop μ-loop
-shared-slice-read-fits-in-2 c = search needs
-
-fits-in-requires : tie.Need-fits-in-requires Inv-loop μ-loop
-fits-in-requires c κs = search needs
-
 returns-2 : tie.Need-returns-2 Inv-loop μ-loop
 returns-2 c =
     let at-test = c .before .before .before .before in
@@ -95,9 +87,6 @@ returns-2 c =
     let args = at-if1 .before .before .before .args in
     wrong (args .ws .now) (args .xs .now) (args .room) (l .size) (l .count) (l .i) (at-if1 .if1 .left) (l .inv)
     _ (at-test .loop-test .taken) (c .before .fits-in .ensures) (c .if2 .taken)
-
-shared-slice-read-count : tie.Need-shared-slice-read-count Inv-loop μ-loop
-shared-slice-read-count c = search needs
 
 -- a width that was tested
 width : (c : tie.After-shared-slice-known5 Inv-loop μ-loop)
@@ -122,12 +111,6 @@ add-size c =
     let l = c .before .before .before .before .before .before in
     omega (arith, width c, l .loop .inv .few, l .loop .inv .near)
 
-add-i : tie.Need-add-i Inv-loop μ-loop
-add-i c = search needs
-
-loop-less : tie.Need-loop-less Inv-loop μ-loop
-loop-less c = search needs
-
 loop-again : tie.Need-loop-again Inv-loop μ-loop
 loop-again c =
     let at-test = c .before .before .before .before .before in
@@ -146,5 +129,5 @@ returns-3 c =
 pub fits-spec : {M : Type 1} → statement M
 fits-spec =
     tie.close
-    (tie.spec Inv-loop μ-loop returns loop-holds shared-slice-read-fits-in shared-slice-read-fits-in-2 fits-in-requires returns-2
-    shared-slice-read-count add-count cast-size add-size add-i loop-less loop-again returns-3)
+    (tie.spec Inv-loop μ-loop returns loop-holds (search needs) (search needs) (search needs) returns-2 (search needs) add-count cast-size add-size
+    (search needs) (search needs) loop-again returns-3)

@@ -29,9 +29,6 @@ returns c =
     kept (a .args .out .now) (a .args .p) (a .args .w) (a .args .x) _ (a .pre)
     (gathered (a .args .p .value) _ _ (a .args .w) (a .args .x) (two .ensures) (c .before .before .wide .ensures .0)) (c .if1 .taken)
 
-div-out : tie.Need-div-out
-div-out c = rw (c .two2 .ensures) (pow-pos _)
-
 cast-out : tie.Need-cast-out
 cast-out c =
     let a = c .before .before .before .before .before .before .before in
@@ -42,9 +39,6 @@ cast-out c =
           (gathered (a .args .p .value) _ _ (a .args .w) (a .args .x) (two .ensures) (c .before .before .before .wide .ensures .0))
           _ (c .before .if1 .left) (c .two2 .ensures),
     )
-
-rem-t11 : tie.Need-rem-t11
-rem-t11 c = rw (c .two2 .ensures) (pow-pos _)
 
 returns-2 : tie.Need-returns-2
 returns-2 c =
@@ -57,5 +51,6 @@ returns-2 c =
 pub gather-spec : {M : Type 1} → statement M
 gather-spec =
     tie.close
-    (tie.spec (search needs) mul-value (search needs) add-value (search needs) returns (search needs) div-out cast-out (search needs) (search needs)
-    rem-t11 (search needs) returns-2)
+    (tie.spec (search needs) mul-value (search needs) add-value (search needs) returns (search needs) (λ c. rw (c .two2 .ensures) (pow-pos _))
+    cast-out (search needs) (search needs)
+    (λ c. rw (c .two2 .ensures) (pow-pos _)) (search needs) returns-2)

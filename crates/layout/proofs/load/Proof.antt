@@ -16,12 +16,6 @@ Inv-loop ws s out₀ n at₀ i₀ out at i = Loading ws s out₀ out n at i
 abbrev μ-loop : tie.MeasureT-loop
 μ-loop ws s out₀ n at₀ i₀ out at i = n - i
 
-up-to-requires : tie.Need-up-to-requires Inv-loop μ-loop
-up-to-requires c κs = search needs
-
-up-to-requires-2 : tie.Need-up-to-requires-2 Inv-loop μ-loop
-up-to-requires-2 c κs = search needs
-
 -- how many are loaded
 bounded : (c : tie.After-up-to2 Inv-loop μ-loop)
     → let a = c .before .before .before .before .before .args in
@@ -32,34 +26,19 @@ bounded c =
     let f : m .result ≤ length (c .before .before .before .before .before .args .ws .now) = rw (m .ensures .0) (up-to-below _ _) in
     (c .up-to2 .ensures .1, (omega arith, omega arith))
 
-loop-holds : tie.Need-loop-holds Inv-loop μ-loop
-loop-holds c = none-loaded _ _ _ _
-
 shared-slice-read-w : tie.Need-shared-slice-read-w Inv-loop μ-loop
 shared-slice-read-w c = omega (arith, bounded (c .before .before .before))
 
 cast-w : tie.Need-cast-w Inv-loop μ-loop
 cast-w c = omega (arith, c .shared-slice-known3 .given (c .before .before .loop .i))
 
-code-requires : tie.Need-code-requires Inv-loop μ-loop
-code-requires c κs = search needs
-
 slice-write-out : tie.Need-slice-write-out Inv-loop μ-loop
 slice-write-out c = omega (arith, bounded (c .before .before .before .before), c .before .before .before .loop .inv .long)
-
-up-to-requires-3 : tie.Need-up-to-requires-3 Inv-loop μ-loop
-up-to-requires-3 c κs = search needs
 
 add-at : tie.Need-add-at Inv-loop μ-loop
 add-at c =
     let l = c .before .before .before .before in
     omega (arith, l .loop .inv .near, bounded (l .before))
-
-add-i : tie.Need-add-i Inv-loop μ-loop
-add-i c = search needs
-
-loop-less : tie.Need-loop-less Inv-loop μ-loop
-loop-less c = search needs
 
 loop-again : tie.Need-loop-again Inv-loop μ-loop
 loop-again c =
@@ -74,9 +53,6 @@ loop-again c =
     (next-loaded (a .ws .now) (a .s .now) (a .out .now) (l .loop .out) _ (l .loop .at) (l .loop .i) (c .before .code .result)
     (l .loop .inv) (at-test .loop-test .taken) k o (c .before .code .ensures) (rw (c .up-to3 .ensures .0) at u))
 
-same-length : tie.Need-same-length Inv-loop μ-loop
-same-length c = c .before .loop .inv .long
-
 returns : tie.Need-returns Inv-loop μ-loop
 returns c =
     let a = c .before .before .before .before .before .before .before .args in
@@ -87,5 +63,6 @@ returns c =
 pub load-spec : {M : Type 1} → statement M
 load-spec =
     tie.close
-    (tie.spec Inv-loop μ-loop up-to-requires up-to-requires-2 loop-holds shared-slice-read-w cast-w code-requires slice-write-out up-to-requires-3
-    add-at add-i loop-less loop-again same-length returns)
+    (tie.spec Inv-loop μ-loop (search needs) (search needs) (λ c. none-loaded _ _ _ _) shared-slice-read-w cast-w (search needs) slice-write-out
+    (search needs)
+    add-at (search needs) (search needs) loop-again (λ c. c .before .loop .inv .long) returns)

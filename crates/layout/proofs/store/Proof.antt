@@ -8,11 +8,12 @@ use borrow.Author.Tests.{leb-true, ltb-true, eqb-true, not-true, not-false}
 use lib.Dec.{eqb, leb, ltb}
 use lib.ListN.{length, take, drop, getD, take-append-drop}
 use lib.Seq.{take-length, length-take-le}
+use Rattle.answer.specs.Tools.{and-left, and-right}
 use Rattle.layout.specs.Layout.{total, pack, unpack, bytes, num, fieldsFit, sizeOf, storable, packed}
 use Rattle.layout.specs.declared.Pending.{Pending}
 use Rattle.layout.specs.Gathered.{Gathered, Fits}
 use Rattle.layout.specs.Stored.{Stored}
-use Rattle.layout.proofs.Laws.{and-left, and-right, fits-each, fits-fitting, fitting-length, total-next, total-take, pack-next, unpack-pack}
+use Rattle.layout.proofs.Laws.{fits-each, fits-fitting, fitting-length, total-next, total-take, pack-next, unpack-pack}
 use borrow.Author.Needs.{needs}
 use Rattle.layout.proofs.store.Statement.{statement}
 use Rattle.layout.proofs.store.Tie as tie
@@ -92,9 +93,6 @@ module _ (ws xs was : List ℕ) (t : storable ws xs (length was) ≡ true) where
 refused : (ws xs l : List ℕ) → storable ws xs (length l) ≡ false → Stored ws xs l l false
 refused ws xs l e = record { answer = sym e; bytes = rw e }
 
-fits-requires : tie.Need-fits-requires Inv-loop μ-loop
-fits-requires c κs = search needs
-
 returns : tie.Need-returns Inv-loop μ-loop
 returns c =
     let a = c .before .before .before .before .before .args in
@@ -111,9 +109,6 @@ tested : (c : tie.Else1 Inv-loop μ-loop)
     → let a = c .before .before .before .before .before .args in storable (a .ws .now) (a .xs .now) (length (a .out .now)) ≡ true
 tested c = sym (c .before .fits2 .ensures) ∙ not-false _ (c .if1 .left)
 
-shared-slice-read-gather : tie.Need-shared-slice-read-gather Inv-loop μ-loop
-shared-slice-read-gather c = search needs
-
 shared-slice-read-gather-2 : tie.Need-shared-slice-read-gather-2 Inv-loop μ-loop
 shared-slice-read-gather-2 c =
     let at-if1 = c .before .before .before .before .before in
@@ -127,12 +122,6 @@ gather-requires c κs =
     let a = l .before .before .before .before .before .before .args in
     next-fits (a .ws .now) (a .xs .now) (a .out .now) (tested (l .before)) _ _ _ (l .loop .inv) (at-test .loop-test .taken)
 
-add-i : tie.Need-add-i Inv-loop μ-loop
-add-i c = search needs
-
-loop-less : tie.Need-loop-less Inv-loop μ-loop
-loop-less c = search needs
-
 loop-again : tie.Need-loop-again Inv-loop μ-loop
 loop-again c =
     let at-test = c .before .before .before .before .before .before in
@@ -140,9 +129,6 @@ loop-again c =
     let a = l .before .before .before .before .before .before .args in
     next (a .ws .now) (a .xs .now) (a .out .now) (tested (l .before)) _ _ _ (l .loop .inv) (at-test .loop-test .taken) _ _
     (c .before .before .gather .ensures .more _ _ _ (l .loop .inv .gathered))
-
-same-length : tie.Need-same-length Inv-loop μ-loop
-same-length c = c .before .loop .inv .gathered .long
 
 returns-2 : tie.Need-returns-2 Inv-loop μ-loop
 returns-2 c =
@@ -153,5 +139,5 @@ returns-2 c =
 pub store-spec : {M : Type 1} → statement M
 store-spec =
     tie.close
-    (tie.spec Inv-loop μ-loop fits-requires returns loop-holds shared-slice-read-gather shared-slice-read-gather-2 gather-requires add-i loop-less
-    loop-again same-length returns-2)
+    (tie.spec Inv-loop μ-loop (search needs) returns loop-holds (search needs) shared-slice-read-gather-2 gather-requires (search needs)
+    (search needs) loop-again (λ c. c .before .loop .inv .gathered .long) returns-2)

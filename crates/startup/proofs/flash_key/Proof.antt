@@ -10,4 +10,7 @@ returns-5 c =
 
 pub flash-key-spec : {M : Type 1} → statement M
 unfolding keyOf
-flash-key-spec = tie.close (tie.spec (λ c. ap keyOf (sym (c .match .keys1))) (λ c. ap keyOf (sym (c .match .keys2))) (λ c. ap keyOf (sym (c .match .keys3))) (λ c. ap keyOf (sym (c .match .keys4))) returns-5)
+flash-key-spec =
+    tie.close
+    (tie.spec (λ c. ap keyOf (sym (c .match .keys1))) (λ c. ap keyOf (sym (c .match .keys2))) (λ c. ap keyOf (sym (c .match .keys3)))
+    (λ c. ap keyOf (sym (c .match .keys4))) returns-5)

@@ -93,4 +93,8 @@ returns-6 c =
     )
 
 pub sources-spec : {M : Type 1} → statement M
-sources-spec = tie.close (tie.spec (search needs) (search needs) (search needs) returns enum-told (search needs) (search needs) returns-2 (search needs) (search needs) (search needs) (search needs) returns-3 (search needs) (search needs) returns-4 (search needs) (search needs) (search needs) returns-5 (search needs) returns-6)
+sources-spec =
+    tie.close
+    (tie.spec (search needs) (search needs) (search needs) returns enum-told (search needs) (search needs) returns-2 (search needs) (search needs)
+    (search needs) (search needs) returns-3 (search needs) (search needs) returns-4 (search needs) (search needs) (search needs) returns-5
+    (search needs) returns-6)

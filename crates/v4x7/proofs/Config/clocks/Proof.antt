@@ -72,4 +72,7 @@ returns-5 c =
     )
 
 pub clocks-spec : {M : Type 1} → statement M
-clocks-spec = tie.close (tie.spec (search needs) returns (search needs) (search needs) (search needs) (search needs) returns-2 (search needs) (search needs) (search needs) (search needs) (search needs) (search needs) (search needs) returns-3 returns-4 returns-5)
+clocks-spec =
+    tie.close
+    (tie.spec (search needs) returns (search needs) (search needs) (search needs) (search needs) returns-2 (search needs) (search needs)
+    (search needs) (search needs) (search needs) (search needs) (search needs) returns-3 returns-4 returns-5)
