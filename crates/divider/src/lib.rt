@@ -73,8 +73,8 @@ fn ahb_shift(family: Family, code: usize) -> u8
     requires { ⌜ code < 16 ⌝ }
     ensures { λ r. ⌜ ShiftFor (ahbDivisor family code) r ⌝ }
 {
-    let row = row_of(family);
-    AHB_SHIFTS[row][code]
+    let row = AHB_SHIFTS[row_of(family)];
+    row[code]
 }
 
 fn apb_shift(code: u8) -> u8
