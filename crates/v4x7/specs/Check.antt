@@ -43,14 +43,17 @@ namedAhb a = eqb a 0 || leb 8 a && leb a 15
 abbrev pub namedApb : ℕ → Bool
 namedApb a = eqb a 0 || leb 4 a && leb a 7
 
+abbrev pub namedDividers : ℕ → ℕ → ℕ → Bool
+namedDividers ahb apb1 apb2 = (namedAhb ahb && namedApb apb1) && namedApb apb2
+
 abbrev pub namedSource : ℕ → Bool
 namedSource s = leb s 3 || eqb s 6
 
 unfoldable pub named : Config → List Bool
 named c =
-    namedPll (c .pll) ∷ namedHsPll (c .hspll) ∷ leb (c .sys) 2 ∷ leb (c .«pll_src») 1
+    namedAhb (c .«ahb_pre») ∷ namedApb (c .«apb1_pre») ∷ namedApb (c .«apb2_pre»)
+    ∷ namedPll (c .pll) ∷ namedHsPll (c .hspll) ∷ leb (c .sys) 2 ∷ leb (c .«pll_src») 1
     ∷ namedSource (c .«syspll_src») ∷ leb (c .«syspll_pre») 7
-    ∷ namedAhb (c .«ahb_pre») ∷ namedApb (c .«apb1_pre») ∷ namedApb (c .«apb2_pre»)
     ∷ leb (c .«rng_src») 2 ∷ leb (c .«adc_pre») 3 ∷ leb (c .«adc_duty») 2 ∷ []
 
 abbrev pub namedOf : Config → Bool

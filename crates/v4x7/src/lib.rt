@@ -5,7 +5,7 @@ ghost use Rattle.divider.specs.Facts.{Between};
 ghost use Rattle.divider.specs.Frequency.{rateSays};
 ghost use Rattle.tree.specs.Tree.{madeSays};
 ghost use Rattle.v4x7_rules.specs.Rules.{ratioSays};
-ghost use Rattle.v4x7.specs.Check.{checkedSays, refusedOf, namedPll, namedHsPll, namedAhb, namedApb, namedSource, namedOf, hasUsbHs, hseFrequencyOf, rngOf, hsePresentOf, mainOf, ethOf, referenceOf, usbHsOf, sourcesOf, sysPllInputOf, sysclkOf, systemOf, adcRatioOf, limitsOf, adcOf, checkOf};
+ghost use Rattle.v4x7.specs.Check.{checkedSays, refusedOf, namedPll, namedHsPll, namedAhb, namedApb, namedDividers, namedSource, namedOf, hasUsbHs, hseFrequencyOf, rngOf, hsePresentOf, mainOf, ethOf, referenceOf, usbHsOf, sourcesOf, sysPllInputOf, sysclkOf, systemOf, adcRatioOf, limitsOf, adcOf, checkOf};
 use answer::Outcome;
 use answer::Reply;
 use answer::refusal;
@@ -110,27 +110,31 @@ fn named_source(code: u8) -> bool
     (code <= 3) | (code == 6)
 }
 
+// Stops at the first code without a name. Most of these codes are 0, which is named by its first test.
+fn named_dividers(ahb: u8, apb1: u8, apb2: u8) -> bool
+    ensures { λ r. ⌜ r ≡ namedDividers ahb apb1 apb2 ⌝ }
+{
+    named_ahb(ahb) && (named_apb(apb1) && named_apb(apb2))
+}
+
 // Whether each code of a configuration, used or not, has a name in the Rust: 28 otherwise. The startup asks this too.
 pub fn named_codes(c: Config) -> bool
     ensures { λ r. ⌜ r ≡ namedOf c ⌝ }
 {
     let pll = c.pll;
     let hspll = c.hspll;
+    if !named_dividers(c.ahb_pre, c.apb1_pre, c.apb2_pre) {
+        return false;
+    }
     let main = named_pll(pll);
     let usbhs = named_hspll(hspll);
     let source = named_source(c.syspll_src);
-    let ahb = named_ahb(c.ahb_pre);
-    let apb1 = named_apb(c.apb1_pre);
-    let apb2 = named_apb(c.apb2_pre);
     main
         & usbhs
         & (c.sys <= 2)
         & (c.pll_src <= 1)
         & source
         & (c.syspll_pre <= 7)
-        & ahb
-        & apb1
-        & apb2
         & (c.rng_src <= 2)
         & (c.adc_pre <= 3)
         & (c.adc_duty <= 2)
@@ -263,6 +267,10 @@ fn sources(c: Config) -> Made
 fn syspll_input(main: Output, hspll: HsPll, ethpll: bool, source: u8) -> Rate
     ensures { λ r. ⌜ rateSays r ≡ sysPllInputOf main hspll ethpll source ⌝ }
 {
+    // From the main PLL, whose output says itself whether there is one.
+    if source == 6 {
+        return v4x7_rules::syspll_input(source, main);
+    }
     let usbhs = has_hspll(hspll);
     if ((source == 0) | (source == 2)) & !usbhs {
         return Rate::Refused(answer::SYSPLL_WITHOUT_USBHS);
