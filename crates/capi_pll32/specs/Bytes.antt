@@ -1,11 +1,11 @@
 -- What the calls of CH32V1, CH32L1 and CH32V30x share: bytes that say yes or no, HSE, and what a check gives.
 -- Assumes nothing.
 use Prim.Native.Nat.{ℕ}
-use mathlib.Core.Bool.{Bool, cond, _&&_, _||_}
+use mathlib.Core.Bool.{Bool, cond, not, _&&_, _||_}
 use mathlib.Core.List.{List}
 use lib.Dec.{eqb, leb}
 use lib.ListN.{getD}
-use Rattle.answer.specs.Answer.{Answer, gives, _>>=_}
+use Rattle.answer.specs.Answer.{Answer, gives, refuse, _>>=_, _>>_}
 use Rattle.layout.specs.Bits.{bitsAt}
 use Rattle.tree.specs.declared.Clocks.{Clocks}
 use Rattle.pll32.specs.declared.Hse.{Hse}
@@ -21,6 +21,12 @@ yes b = eqb b 1
 
 abbrev pub yesOrNo : ℕ → Bool
 yesOrNo b = leb b 1
+
+-- what is read of bytes that are a record; others are refused by 28
+abbrev pub recordIn : {A : Type 0} → Bool → A → Answer A
+recordIn is value = do
+  refuse 28 (not is)
+  gives value
 
 -- HSE's frequency stands in bytes 2 to 5 of a configuration, most significant first
 abbrev pub hseHzIn : List ℕ → ℕ

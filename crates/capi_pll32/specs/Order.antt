@@ -1,12 +1,11 @@
--- The order of refusals of calls on bytes: 32 for the lent memory, 28 for a record, then the call's own.
+-- The order of refusals of calls on bytes: 32 for the lent memory, then the call's own.
 -- Assumes nothing.
-use mathlib.Core.Path.{_≡_, refl}
-use mathlib.Core.Bool.{Bool, true, false}
+use mathlib.Core.Path.{_≡_}
 use mathlib.Core.List.{List, _∷_, _++_}
 use Prim.Native.Nat.{ℕ}
 use lib.Dec.{ltb}
 use lib.ListN.{length, drop}
-use Rattle.answer.specs.Answer.{Answer, gives, refuse, _>>=_, _>>_}
+use Rattle.answer.specs.Answer.{Answer}
 use Rattle.answer.specs.Order.{Test, firstOf, bare, InOrder, order-past}
 use Rattle.answer.specs.Lists.{order-map}
 use Rattle.layout.specs.Lent.{written}
@@ -14,13 +13,6 @@ use Rattle.layout.specs.Lent.{written}
 -- an answer of which it is known that it goes by a list
 pub by-list : {A : Type 0} {m : Answer A} (l : List Test) → bare m ≡ firstOf l → InOrder l m
 by-list l e = record { goes = e }
-
--- a record is tested by its length and by its bytes
-pub record-order : {A B : Type 0} {l : List Test} (f : A → Answer B) (short odd : Bool) (value : A) → InOrder l (f value) →
-    InOrder ((28, short) ∷ (28, odd) ∷ l) (_>>=_ (_>>_ (refuse 28 short) (_>>_ (refuse 28 odd) (gives value))) f)
-record-order f true odd value h = record { goes = refl }
-record-order f false true value h = record { goes = refl }
-record-order f false false value h = record { goes = h .goes }
 
 -- n bytes or words are given through lent ones
 pub lent-order : {l : List Test} (n : ℕ) (m : Answer (List ℕ)) (out : List ℕ) → InOrder l m → InOrder ((32, ltb (length out) n) ∷ l) (written n m out)

@@ -1,14 +1,13 @@
 -- A configuration's bytes are given back by what is read of them, and it by its bytes: every configuration has one record. Assumes nothing.
 use Prim.Native.Nat.{ℕ, zero, suc, _+_, _*_, _/_, _%_, _^_, _<_}
 use mathlib.Core.Path.{_≡_, refl, sym, ap, _∙_}
-use mathlib.Core.Bool.{Bool, true, false, not, _&&_, _||_}
+use mathlib.Core.Bool.{Bool, true, false, _&&_, _||_}
 use mathlib.Core.List.{List, [], _∷_}
 use native.Mathlib.Omega.{arith}
-use borrow.Author.Tests.{leb-true, eqb-true, eqb-false, not-false}
+use borrow.Author.Tests.{leb-true, eqb-true, eqb-false}
 use lib.Dec.{eqb}
 use lib.ListN.{length}
 use lib.Pow.{shr-shr}
-use Rattle.answer.specs.Answer.{gives, refuse, _>>_, passed, same-given}
 use Rattle.layout.specs.Bits.{bit, bitsAt}
 use Rattle.answer.specs.Tools.{and-left, and-right}
 use Rattle.layout.proofs.Reading.{flag-of-bit}
@@ -57,14 +56,11 @@ three-said x y z h =
       said z (and-right (yesOrNo x && yesOrNo y) (yesOrNo z) h),
     )
 
--- A record of n bytes whose tests pass, and whose bytes are given back by the value that is read: that value is read of this record alone.
-pub read-of-one : {A : Type 0} (n : ℕ) (l : List ℕ) (allowed : Bool) (value : A) (bytes : A → List ℕ) {c : A} → (allowed ≡ true → bytes value ≡ listed (at l) n) →
-    _>>_ (refuse 28 (not (eqb (length l) n))) (_>>_ (refuse 28 (not allowed)) (gives value)) ≡ gives c → l ≡ bytes c
-read-of-one n l allowed value bytes back e =
-    let sized = passed 28 (not (eqb (length l) n)) _ e in
-    let tested = passed 28 (not allowed) (gives value) (sized .after) in
-    let long : length l ≡ n = eqb-true (length l) n (not-false (eqb (length l) n) (sized .failed)) in
-    entries l ∙ ap (listed (at l)) long ∙ sym (back (not-false allowed (tested .failed))) ∙ ap bytes (same-given (tested .after))
+-- A record of n bytes that are allowed, and that are given back by the value that they hold: that value has this record alone.
+pub of-one : (n : ℕ) (l : List ℕ) (allowed : Bool) {bytes : List ℕ} → (allowed ≡ true → bytes ≡ listed (at l) n) → (eqb (length l) n && allowed) ≡ true → l ≡ bytes
+of-one n l allowed back e =
+    let long : length l ≡ n = eqb-true (length l) n (and-left (eqb (length l) n) allowed e) in
+    entries l ∙ ap (listed (at l)) long ∙ sym (back (and-right (eqb (length l) n) allowed e))
 
 -- a source by its byte
 abbrev pub sourceByte : Source → ℕ

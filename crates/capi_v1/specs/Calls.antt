@@ -5,7 +5,7 @@ use mathlib.Core.Bool.{Bool, cond, not, _&&_, _||_}
 use mathlib.Core.List.{List, [], _∷_}
 use lib.Dec.{eqb, ltb}
 use lib.ListN.{length}
-use Rattle.answer.specs.Answer.{Answer, gives, refuses, refuse, _>>=_, _>>_}
+use Rattle.answer.specs.Answer.{Answer, gives, refuse, _>>=_, _>>_}
 use Rattle.layout.specs.Bits.{bit}
 use Rattle.tree.specs.declared.Clocks.{Clocks}
 use Rattle.pll32.specs.declared.ClockRecord.{ClockRecord}
@@ -20,19 +20,6 @@ use Rattle.v1.specs.declared.Fields.{Fields}
 use Rattle.v1.specs.V1.{checkOf, decodeOf, fieldsOf}
 use Rattle.capi_give.specs.Given.{decoderHse}
 use Rattle.capi_pll32.specs.Bytes.{at, yes, yesOrNo, hseHzIn, configHse, hseAllowed}
-use Rattle.capi_v1.specs.declared.TakenConfig.{TakenConfig}
-use Rattle.capi_v1.specs.declared.TakenConfig.the-variants as config
-use Rattle.capi_v1.specs.declared.TakenFields.{TakenFields}
-use Rattle.capi_v1.specs.declared.TakenFields.the-variants as fields
-
--- What the answers say.
-abbrev pub takenConfigSays : TakenConfig → Answer Config
-takenConfigSays (config.Is c) = gives c
-takenConfigSays (config.Refused n) = refuses n
-
-abbrev pub takenFieldsSays : TakenFields → Answer Fields
-takenFieldsSays (fields.Is f) = gives f
-takenFieldsSays (fields.Refused n) = refuses n
 
 -- the part: 0 V1, 1 L1
 abbrev pub chipOf : ℕ → Chip
@@ -60,11 +47,8 @@ configAllowed l =
     hseAllowed (at l 0) (at l 1) (hseHzIn l) && yesOrNo (at l 7)
     && (yesOrNo (at l 8) && yesOrNo (at l 9) && (yes (at l 8) || eqb (at l 9) 0 && eqb (at l 10) 0))
 
-unfoldable pub readConfig : List ℕ → Answer Config
-readConfig l = do
-  refuse 28 (not (eqb (length l) 14))
-  refuse 28 (not (configAllowed l))
-  gives (configOf l)
+abbrev pub isConfig : List ℕ → Bool
+isConfig l = eqb (length l) 14 && configAllowed l
 
 -- Fields of 8 bytes: 0 SWS, 1 PLLSRC, 2 PLLXTPRE, 3 PLLMUL, 4 HPRE, 5 PPRE1, 6 PPRE2, 7 the HSI predivider bit
 abbrev pub fieldsIn : List ℕ → Fields
@@ -82,11 +66,8 @@ fieldsIn l = record {
 abbrev pub fieldsAllowed : List ℕ → Bool
 fieldsAllowed l = yesOrNo (at l 1) && yesOrNo (at l 2) && yesOrNo (at l 7)
 
-unfoldable pub readFields : List ℕ → Answer Fields
-readFields l = do
-  refuse 28 (not (eqb (length l) 8))
-  refuse 28 (not (fieldsAllowed l))
-  gives (fieldsIn l)
+abbrev pub isFields : List ℕ → Bool
+isFields l = eqb (length l) 8 && fieldsAllowed l
 
 abbrev pub bytesOf : Fields → List ℕ
 bytesOf f = f .sws ∷ bit (f .pllsrc) ∷ bit (f .pllxtpre) ∷ f .pllmul ∷ f .hpre ∷ f .ppre1 ∷ f .ppre2 ∷ bit (f .hsipre) ∷ []
@@ -96,24 +77,20 @@ fieldBytes m = do
   f ← m
   gives (bytesOf f)
 
--- The check: 28 for a part neither 0 nor 1, then for the record, then as the check refuses
+-- The check: 28 for bytes that are no record and for a part neither 0 nor 1, then as the check refuses
 unfoldable pub checkRead : ℕ → List ℕ → Answer ClockRecord
 checkRead part l = do
-  refuse 28 (ltb 1 part)
-  c ← readConfig l
-  checkOf (chipOf part) c
+  refuse 28 (not (isConfig l) || ltb 1 part)
+  checkOf (chipOf part) (configOf l)
 
 -- The decoder, likewise
 unfoldable pub decodeRead : ℕ → List ℕ → ℕ → Answer Clocks
 decodeRead part l hz = do
-  refuse 28 (ltb 1 part)
-  f ← readFields l
-  decodeOf (chipOf part) f (decoderHse hz)
+  refuse 28 (not (isFields l) || ltb 1 part)
+  decodeOf (chipOf part) (fieldsIn l) (decoderHse hz)
 
--- The fields call, likewise: the configuration's record, then that of the earlier fields
+-- The fields call, likewise, of two records
 unfoldable pub initRead : ℕ → List ℕ → List ℕ → Answer Fields
 initRead part l e = do
-  refuse 28 (ltb 1 part)
-  c ← readConfig l
-  f ← readFields e
-  fieldsOf (chipOf part) c f
+  refuse 28 ((not (isConfig l) || not (isFields e)) || ltb 1 part)
+  fieldsOf (chipOf part) (configOf l) (fieldsIn e)

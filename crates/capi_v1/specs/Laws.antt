@@ -14,11 +14,11 @@ use Rattle.v1.specs.declared.Pll.the-variants as pll
 use Rattle.v1.specs.declared.Config.{Config}
 use Rattle.v1.specs.declared.Fields.{Fields}
 use Rattle.v1.specs.V1.{predivCode}
-use Rattle.capi_pll32.specs.Bytes.{at, yes, yesOrNo, hseHzIn, hseAllowed}
-use Rattle.capi_pll32.specs.Records.{listed, same, said-as, three-said, read-of-one, bit-says, or-else, sourceByte, source-back, source-says, source-read, hseThere, hseBypass, hseHz, hseBytes, hse-back, hse-says, hse-read, hse-hz-read}
+use Rattle.capi_pll32.specs.Bytes.{at, yes, yesOrNo, recordIn, hseHzIn, hseAllowed}
+use Rattle.capi_pll32.specs.Records.{listed, same, said-as, three-said, of-one, bit-says, or-else, sourceByte, source-back, source-says, source-read, hseThere, hseBypass, hseHz, hseBytes, hse-back, hse-says, hse-read, hse-hz-read}
 use Rattle.layout.specs.Bits.{bit}
 use Rattle.v1.specs.declared.PllPreDiv.the-variants as prediv
-use Rattle.capi_v1.specs.Calls.{configPll, configOf, configAllowed, readConfig, fieldsIn, fieldsAllowed, readFields, bytesOf}
+use Rattle.capi_v1.specs.Calls.{configPll, configOf, configAllowed, isConfig, fieldsIn, fieldsAllowed, isFields, bytesOf}
 
 -- a PLL's three bytes: whether it is there, whether its input is halved, its multiplier's code
 abbrev pub pllThere : Pll → Bool
@@ -68,10 +68,9 @@ back l small h =
     (yes (at l 8)) (yes (at l 9)) refl refl in
     rw (hse, source, pll) refl
 
--- a configuration that is read of a record has that record alone
-pub one-record : (l : List ℕ) → ((i : ℕ) → at l i < 256) → (c : Config) → readConfig l ≡ gives c → l ≡ configBytes c
-unfolding readConfig
-one-record l small c = read-of-one 14 l (configAllowed l) (configOf l) configBytes (back l small)
+-- a configuration that a record holds has that record alone
+pub one-record : (l : List ℕ) → ((i : ℕ) → at l i < 256) → isConfig l ≡ true → l ≡ configBytes (configOf l)
+one-record l small = of-one 14 l (configAllowed l) (back l small)
 
 pll-says : (p : Pll) → (yesOrNo (bit (pllThere p)) && yesOrNo (pllLess p) && (yes (bit (pllThere p)) || eqb (pllLess p) 0 && eqb (pllMul p) 0)) ≡ true
 pll-says pll.Absent = refl
@@ -84,8 +83,8 @@ pll-read (pll.Present prediv.Div1 mul) = refl
 pll-read (pll.Present prediv.Div2 mul) = refl
 
 -- and every configuration has it: its bytes are read as the configuration
-pub config-read-back : (c : Config) → hseHz (c .hse) < 4294967296 → readConfig (configBytes c) ≡ gives c
-unfolding readConfig configBytes hseBytes pllBytes configAllowed configOf
+pub config-read-back : (c : Config) → hseHz (c .hse) < 4294967296 → recordIn (isConfig (configBytes c)) (configOf (configBytes c)) ≡ gives c
+unfolding configBytes hseBytes pllBytes configAllowed configOf
 config-read-back c fits =
     rw (
       hse-hz-read (bit (hseThere (c .hse))) (bit (hseBypass (c .hse))) (hseHz (c .hse)) _ fits,
@@ -99,8 +98,7 @@ config-read-back c fits =
     refl
 
 -- the bytes that fields are given as are read as these fields
-pub fields-read-back : (f : Fields) → readFields (bytesOf f) ≡ gives f
-unfolding readFields
+pub fields-read-back : (f : Fields) → recordIn (isFields (bytesOf f)) (fieldsIn (bytesOf f)) ≡ gives f
 fields-read-back f =
     rw (
       bit-says (f .pllsrc),
@@ -113,9 +111,8 @@ fields-read-back f =
     refl
 
 -- and they alone are: a byte that says yes or no is 1 or 0
-pub fields-one-record : (l : List ℕ) (f : Fields) → readFields l ≡ gives f → l ≡ bytesOf f
-unfolding readFields
-fields-one-record l f =
-    read-of-one 8 l (fieldsAllowed l) (fieldsIn l) bytesOf (λ h.
+pub fields-one-record : (l : List ℕ) → isFields l ≡ true → l ≡ bytesOf (fieldsIn l)
+fields-one-record l =
+    of-one 8 l (fieldsAllowed l) (λ h.
     let bits = three-said (at l 1) (at l 2) (at l 7) h in
     rw (bits .0, bits .1, bits .2) refl)

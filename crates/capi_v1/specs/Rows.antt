@@ -14,7 +14,8 @@ use Rattle.v1.specs.declared.PllPreDiv.the-variants.{Div1, Div2}
 use Rattle.v1.specs.declared.Pll.the-variants as pll
 use Rattle.v1.specs.declared.Config.{Config}
 use Rattle.v1.specs.declared.Fields.{Fields}
-use Rattle.capi_v1.specs.Calls.{chipOf, configAllowed, configOf, readConfig, readFields}
+use Rattle.capi_pll32.specs.Bytes.{recordIn}
+use Rattle.capi_v1.specs.Calls.{chipOf, configAllowed, isConfig, configOf, isFields, fieldsIn}
 
 -- the parts by their number (include/wontabeli_numbers.h): 0 V1, 1 L1
 pub parts : (chipOf 0 ≡ chip.V1) × (chipOf 1 ≡ chip.L1)
@@ -53,8 +54,8 @@ configs = (
     ∷ (0 ∷ 0 ∷ 0 ∷ 0 ∷ 0 ∷ 1 ∷ 0 ∷ 1 ∷ 0 ∷ 0 ∷ 0 ∷ 0 ∷ 0 ∷ 0 ∷ [], refuses 28)
     ∷ []
 
-pub configs-hold : Worked readConfig configs
-unfolding configs readConfig configAllowed configOf bitsAt
+pub configs-hold : Worked (λ l. recordIn (isConfig l) (configOf l)) configs
+unfolding configs configAllowed configOf bitsAt
 configs-hold = refl
 
 pub fields : List (List ℕ × Answer Fields)
@@ -69,6 +70,6 @@ fields = (
     ∷ (1 ∷ 0 ∷ 1 ∷ 3 ∷ 9 ∷ 6 ∷ 7 ∷ 2 ∷ [], refuses 28)
     ∷ []
 
-pub fields-hold : Worked readFields fields
-unfolding fields readFields
+pub fields-hold : Worked (λ l. recordIn (isFields l) (fieldsIn l)) fields
+unfolding fields
 fields-hold = refl

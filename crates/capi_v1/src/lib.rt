@@ -1,12 +1,13 @@
 // CH32V1 and CH32L1 for C: the check, the decoder, and the fields that starting a configuration leaves.
 ghost use mathlib.Core.Path.{_≡_};
+ghost use mathlib.Core.Bool.{true};
 ghost use lib.ListN.{length};
 ghost use Rattle.pll32.specs.Pll.{checkedSays};
 ghost use Rattle.tree.specs.Tree.{busesSays};
 ghost use Rattle.v1.specs.V1.{writtenSays};
 ghost use Rattle.capi_give.specs.Given.{Given, sixWords, sevenWords};
 ghost use Rattle.capi_pll32.specs.Bytes.{sevenOf};
-ghost use Rattle.capi_v1.specs.Calls.{chipOf, configPll, configOf, configAllowed, readConfig, takenConfigSays, fieldsIn, fieldsAllowed, readFields, takenFieldsSays, bytesOf, fieldBytes, checkRead, decodeRead, initRead};
+ghost use Rattle.capi_v1.specs.Calls.{chipOf, configPll, configOf, isConfig, fieldsIn, isFields, bytesOf, fieldBytes, checkRead, decodeRead, initRead};
 use pll32::Checked;
 use tree::Buses;
 use v1::Chip;
@@ -24,18 +25,6 @@ pub const V1_PART_L1: u8 = 1;
 pub const V1_CONFIG_SIZE: usize = 14;
 // Bytes of register fields of CH32V1 or CH32L1.
 pub const V1_FIELDS_SIZE: usize = 8;
-
-// A configuration from its bytes, or a refusal number.
-pub enum TakenConfig {
-    Is(Config),
-    Refused(u8),
-}
-
-// Register fields from their bytes, or a refusal number.
-pub enum TakenFields {
-    Is(Fields),
-    Refused(u8),
-}
 
 fn chip(part: u8) -> Chip
     ensures { λ r. ⌜ r ≡ chipOf part ⌝ }
@@ -81,25 +70,15 @@ fn config_of(b: &[u8]) -> Config
     }
 }
 
-fn config_allowed(b: &[u8]) -> bool
-    requires { ⌜ length (now b) ≡ 14 ⌝ }
-    ensures { λ r. ⌜ r ≡ configAllowed (now (b .entry)) ⌝ }
+fn is_config(b: &[u8]) -> bool
+    ensures { λ r. ⌜ (r ≡ isConfig (now (b .entry))) × (r ≡ true → length (now (b .entry)) ≡ 14) ⌝ }
 {
+    if b.len() != V1_CONFIG_SIZE {
+        return false;
+    }
     capi_pll32::hse_allowed(b[0], b[1], capi_pll32::hse_hz(b))
         & (b[7] <= 1)
         & ((b[8] <= 1) & (b[9] <= 1) & ((b[8] == 1) | (b[9] == 0) & (b[10] == 0)))
-}
-
-fn take_config(b: &[u8]) -> TakenConfig
-    ensures { λ r. ⌜ takenConfigSays r ≡ readConfig (now (b .entry)) ⌝ }
-{
-    if b.len() != V1_CONFIG_SIZE {
-        return TakenConfig::Refused(answer::CODE_NOT_ALLOWED);
-    }
-    if !config_allowed(b) {
-        return TakenConfig::Refused(answer::CODE_NOT_ALLOWED);
-    }
-    TakenConfig::Is(config_of(b))
 }
 
 fn fields_in(b: &[u8]) -> Fields
@@ -118,35 +97,22 @@ fn fields_in(b: &[u8]) -> Fields
     }
 }
 
-fn fields_allowed(b: &[u8]) -> bool
-    requires { ⌜ length (now b) ≡ 8 ⌝ }
-    ensures { λ r. ⌜ r ≡ fieldsAllowed (now (b .entry)) ⌝ }
-{
-    (b[1] <= 1) & (b[2] <= 1) & (b[7] <= 1)
-}
-
-fn take_fields(b: &[u8]) -> TakenFields
-    ensures { λ r. ⌜ takenFieldsSays r ≡ readFields (now (b .entry)) ⌝ }
+fn is_fields(b: &[u8]) -> bool
+    ensures { λ r. ⌜ (r ≡ isFields (now (b .entry))) × (r ≡ true → length (now (b .entry)) ≡ 8) ⌝ }
 {
     if b.len() != V1_FIELDS_SIZE {
-        return TakenFields::Refused(answer::CODE_NOT_ALLOWED);
+        return false;
     }
-    if !fields_allowed(b) {
-        return TakenFields::Refused(answer::CODE_NOT_ALLOWED);
-    }
-    TakenFields::Is(fields_in(b))
+    (b[1] <= 1) & (b[2] <= 1) & (b[7] <= 1)
 }
 
 fn check(part: u8, config: &[u8]) -> Checked
     ensures { λ r. ⌜ checkedSays r ≡ checkRead part (now (config .entry)) ⌝ }
 {
-    if V1_PART_L1 < part {
+    if !is_config(config) | (V1_PART_L1 < part) {
         return Checked::Refused(answer::CODE_NOT_ALLOWED);
     }
-    match take_config(config) {
-        TakenConfig::Refused(n) => Checked::Refused(n),
-        TakenConfig::Is(c) => v1::check(chip(part), c),
-    }
+    v1::check(chip(part), config_of(config))
 }
 
 // Checks a configuration of 14 bytes. Gives seven words: the six clocks, and twice the USB divisor, 0 where there is none.
@@ -161,13 +127,10 @@ pub extern "C" fn wontabeli_v1_check(part: u8, config: &[u8], out: &mut [u32]) -
 fn decode(part: u8, fields: &[u8], hse: u32) -> Buses
     ensures { λ r. ⌜ busesSays r ≡ decodeRead part (now (fields .entry)) hse ⌝ }
 {
-    if V1_PART_L1 < part {
+    if !is_fields(fields) | (V1_PART_L1 < part) {
         return Buses::Refused(answer::CODE_NOT_ALLOWED);
     }
-    match take_fields(fields) {
-        TakenFields::Refused(n) => Buses::Refused(n),
-        TakenFields::Is(f) => v1::decode(chip(part), f, capi_give::decoder_hse(hse)),
-    }
+    v1::decode(chip(part), fields_in(fields), capi_give::decoder_hse(hse))
 }
 
 // Decodes fields of 8 bytes, with HSE's frequency; 0 says that there is none. Gives six words: the six clocks.
@@ -182,16 +145,10 @@ pub extern "C" fn wontabeli_v1_decode(part: u8, fields: &[u8], hse: u32, out: &m
 fn init_fields(part: u8, config: &[u8], earlier: &[u8]) -> Written
     ensures { λ r. ⌜ writtenSays r ≡ initRead part (now (config .entry)) (now (earlier .entry)) ⌝ }
 {
-    if V1_PART_L1 < part {
+    if !is_config(config) | !is_fields(earlier) | (V1_PART_L1 < part) {
         return Written::Refused(answer::CODE_NOT_ALLOWED);
     }
-    match take_config(config) {
-        TakenConfig::Refused(n) => Written::Refused(n),
-        TakenConfig::Is(c) => match take_fields(earlier) {
-            TakenFields::Refused(n) => Written::Refused(n),
-            TakenFields::Is(f) => v1::init_fields(chip(part), c, f),
-        },
-    }
+    v1::init_fields(chip(part), config_of(config), fields_in(earlier))
 }
 
 fn bytes(f: Fields) -> [u8; 8]

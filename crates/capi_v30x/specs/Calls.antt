@@ -5,7 +5,7 @@ use mathlib.Core.Bool.{Bool, cond, not, _&&_, _||_}
 use mathlib.Core.List.{List, [], _∷_}
 use lib.Dec.{eqb, leb}
 use lib.ListN.{length}
-use Rattle.answer.specs.Answer.{Answer, gives, refuses, refuse, _>>=_, _>>_}
+use Rattle.answer.specs.Answer.{Answer, gives, refuse, _>>=_, _>>_}
 use Rattle.layout.specs.Bits.{bit}
 use Rattle.tree.specs.declared.Clocks.{Clocks}
 use Rattle.pll32.specs.declared.ClockRecord.{ClockRecord}
@@ -23,19 +23,6 @@ use Rattle.v30x.specs.declared.Fields.{Fields}
 use Rattle.v30x.specs.V30x.{checkOf, decodeOf, fieldsOf}
 use Rattle.capi_give.specs.Given.{decoderHse}
 use Rattle.capi_pll32.specs.Bytes.{at, yes, yesOrNo, hseHzIn, configHse, hseAllowed}
-use Rattle.capi_v30x.specs.declared.TakenConfig.{TakenConfig}
-use Rattle.capi_v30x.specs.declared.TakenConfig.the-variants as config
-use Rattle.capi_v30x.specs.declared.TakenFields.{TakenFields}
-use Rattle.capi_v30x.specs.declared.TakenFields.the-variants as fields
-
--- What the answers say.
-abbrev pub takenConfigSays : TakenConfig → Answer Config
-takenConfigSays (config.Is c) = gives c
-takenConfigSays (config.Refused n) = refuses n
-
-abbrev pub takenFieldsSays : TakenFields → Answer Fields
-takenFieldsSays (fields.Is f) = gives f
-takenFieldsSays (fields.Refused n) = refuses n
 
 -- what feeds the PLL: 0 HSI, 1 HSE, 2 PLL2
 abbrev pub configPllSource : ℕ → PllSource
@@ -78,11 +65,8 @@ usbhsAllowed l = yesOrNo (at l 15) && yesOrNo (at l 16) && (yes (at l 16) || eqb
 unfoldable pub configAllowed : List ℕ → Bool
 configAllowed l = hseAllowed (at l 0) (at l 1) (hseHzIn l) && pllAllowed l && usbhsAllowed l
 
-unfoldable pub readConfig : List ℕ → Answer Config
-readConfig l = do
-  refuse 28 (not (eqb (length l) 18))
-  refuse 28 (not (configAllowed l))
-  gives (configOf l)
+abbrev pub isConfig : List ℕ → Bool
+isConfig l = eqb (length l) 18 && configAllowed l
 
 -- Fields of 9 bytes: 0 SWS, 1 PLLSRC, 2 PREDIV1, 3 PREDIV1SRC, 4 PLLMUL, 5 HPRE, 6 PPRE1, 7 PPRE2, 8 the HSI predivider bit
 abbrev pub fieldsIn : List ℕ → Fields
@@ -101,11 +85,8 @@ fieldsIn l = record {
 abbrev pub fieldsAllowed : List ℕ → Bool
 fieldsAllowed l = yesOrNo (at l 1) && yesOrNo (at l 3) && yesOrNo (at l 8)
 
-unfoldable pub readFields : List ℕ → Answer Fields
-readFields l = do
-  refuse 28 (not (eqb (length l) 9))
-  refuse 28 (not (fieldsAllowed l))
-  gives (fieldsIn l)
+abbrev pub isFields : List ℕ → Bool
+isFields l = eqb (length l) 9 && fieldsAllowed l
 
 abbrev pub bytesOf : Fields → List ℕ
 bytesOf f =
@@ -116,21 +97,20 @@ fieldBytes m = do
   f ← m
   gives (bytesOf f)
 
--- The check: 28 for the record, then as the check refuses
+-- The check: 28 for bytes that are no record, then as the check refuses
 unfoldable pub checkRead : List ℕ → Answer ClockRecord
 checkRead l = do
-  c ← readConfig l
-  checkOf c
+  refuse 28 (not (isConfig l))
+  checkOf (configOf l)
 
 -- The decoder, likewise
 unfoldable pub decodeRead : List ℕ → ℕ → Answer Clocks
 decodeRead l hz = do
-  f ← readFields l
-  decodeOf f (decoderHse hz)
+  refuse 28 (not (isFields l))
+  decodeOf (fieldsIn l) (decoderHse hz)
 
--- The fields call, likewise: the configuration's record, then that of the earlier fields
+-- The fields call, likewise, of two records
 unfoldable pub initRead : List ℕ → List ℕ → Answer Fields
 initRead l e = do
-  c ← readConfig l
-  f ← readFields e
-  fieldsOf c f
+  refuse 28 (not (isConfig l) || not (isFields e))
+  fieldsOf (configOf l) (fieldsIn e)

@@ -22,9 +22,9 @@ use Rattle.v30x.specs.declared.HsPll.the-variants as hspll
 use Rattle.v30x.specs.declared.Config.{Config}
 use Rattle.v30x.specs.declared.Fields.{Fields}
 use Rattle.v30x.specs.V30x.{pllxPresent}
-use Rattle.capi_pll32.specs.Bytes.{at, yes, yesOrNo, hseHzIn, hseAllowed}
-use Rattle.capi_pll32.specs.Records.{listed, same, said, said-as, three-said, read-of-one, bit-says, or-else, sourceByte, source-back, source-says, source-read, hseThere, hseBypass, hseHz, hseBytes, hse-back, hse-says, hse-read, hse-hz-read}
-use Rattle.capi_v30x.specs.Calls.{configPll, configPllx, configHsPll, configOf, pllAllowed, usbhsAllowed, configAllowed, readConfig, fieldsIn, fieldsAllowed, readFields, bytesOf}
+use Rattle.capi_pll32.specs.Bytes.{at, yes, yesOrNo, recordIn, hseHzIn, hseAllowed}
+use Rattle.capi_pll32.specs.Records.{listed, same, said, said-as, three-said, of-one, bit-says, or-else, sourceByte, source-back, source-says, source-read, hseThere, hseBypass, hseHz, hseBytes, hse-back, hse-says, hse-read, hse-hz-read}
+use Rattle.capi_v30x.specs.Calls.{configPll, configPllx, configHsPll, configOf, pllAllowed, usbhsAllowed, configAllowed, isConfig, fieldsIn, fieldsAllowed, isFields, bytesOf}
 
 abbrev pub pllSourceByte : PllSource → ℕ
 pllSourceByte source.Hsi = 0
@@ -118,10 +118,9 @@ back l small h =
     )
     refl
 
--- a configuration that is read of a record has that record alone
-pub one-record : (l : List ℕ) → ((i : ℕ) → at l i < 256) → (c : Config) → readConfig l ≡ gives c → l ≡ configBytes c
-unfolding readConfig
-one-record l small c = read-of-one 18 l (configAllowed l) (configOf l) configBytes (back l small)
+-- a configuration that a record holds has that record alone
+pub one-record : (l : List ℕ) → ((i : ℕ) → at l i < 256) → isConfig l ≡ true → l ≡ configBytes (configOf l)
+one-record l small = of-one 18 l (configAllowed l) (back l small)
 
 pll-source-says : (s : PllSource) → leb (pllSourceByte s) 2 ≡ true
 pll-source-says source.Hsi = refl
@@ -154,8 +153,8 @@ hspll-read hspll.Absent = refl
 hspll-read (hspll.Present pre) = refl
 
 -- and every configuration has it: its bytes are read as the configuration
-pub config-read-back : (c : Config) → hseHz (c .hse) < 4294967296 → readConfig (configBytes c) ≡ gives c
-unfolding readConfig configBytes hseBytes pllBytes hsPllBytes configAllowed configOf
+pub config-read-back : (c : Config) → hseHz (c .hse) < 4294967296 → recordIn (isConfig (configBytes c)) (configOf (configBytes c)) ≡ gives c
+unfolding configBytes hseBytes pllBytes hsPllBytes configAllowed configOf
 config-read-back c fits =
     rw (
       hse-hz-read (bit (hseThere (c .hse))) (bit (hseBypass (c .hse))) (hseHz (c .hse)) _ fits,
@@ -177,8 +176,7 @@ config-read-back c fits =
     refl
 
 -- the bytes that fields are given as are read as these fields
-pub fields-read-back : (f : Fields) → readFields (bytesOf f) ≡ gives f
-unfolding readFields
+pub fields-read-back : (f : Fields) → recordIn (isFields (bytesOf f)) (fieldsIn (bytesOf f)) ≡ gives f
 fields-read-back f =
     rw (
       bit-says (f .pllsrc),
@@ -191,9 +189,8 @@ fields-read-back f =
     refl
 
 -- and they alone are: a byte that says yes or no is 1 or 0
-pub fields-one-record : (l : List ℕ) (f : Fields) → readFields l ≡ gives f → l ≡ bytesOf f
-unfolding readFields
-fields-one-record l f =
-    read-of-one 9 l (fieldsAllowed l) (fieldsIn l) bytesOf (λ h.
+pub fields-one-record : (l : List ℕ) → isFields l ≡ true → l ≡ bytesOf (fieldsIn l)
+fields-one-record l =
+    of-one 9 l (fieldsAllowed l) (λ h.
     let bits = three-said (at l 1) (at l 3) (at l 8) h in
     rw (bits .0, bits .1, bits .2) refl)

@@ -15,7 +15,8 @@ use Rattle.v30x.specs.declared.Pllx.the-variants as pllx
 use Rattle.v30x.specs.declared.HsPll.the-variants as hspll
 use Rattle.v30x.specs.declared.Config.{Config}
 use Rattle.v30x.specs.declared.Fields.{Fields}
-use Rattle.capi_v30x.specs.Calls.{configAllowed, configOf, readConfig, readFields}
+use Rattle.capi_pll32.specs.Bytes.{recordIn}
+use Rattle.capi_v30x.specs.Calls.{configAllowed, isConfig, configOf, isFields, fieldsIn}
 
 -- 25,000,000 is 01 7D 78 40
 pub configs : List (List ℕ × Answer Config)
@@ -52,8 +53,8 @@ configs = (
     ∷ (1 ∷ 1 ∷ 0 ∷ 0 ∷ 0 ∷ 1 ∷ 1 ∷ 2 ∷ 0 ∷ 0 ∷ 0 ∷ 2 ∷ 0 ∷ 0 ∷ 0 ∷ 0 ∷ 0 ∷ 0 ∷ [], refuses 28)
     ∷ []
 
-pub configs-hold : Worked readConfig configs
-unfolding configs readConfig configAllowed configOf bitsAt
+pub configs-hold : Worked (λ l. recordIn (isConfig l) (configOf l)) configs
+unfolding configs configAllowed configOf bitsAt
 configs-hold = refl
 
 pub fields : List (List ℕ × Answer Fields)
@@ -68,6 +69,6 @@ fields = (
     ∷ (1 ∷ 0 ∷ 5 ∷ 1 ∷ 3 ∷ 9 ∷ 6 ∷ 7 ∷ 2 ∷ [], refuses 28)
     ∷ []
 
-pub fields-hold : Worked readFields fields
-unfolding fields readFields
+pub fields-hold : Worked (λ l. recordIn (isFields l) (fieldsIn l)) fields
+unfolding fields
 fields-hold = refl

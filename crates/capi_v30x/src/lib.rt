@@ -1,12 +1,13 @@
 // CH32V30x for C: the check, the decoder, and the fields that starting a configuration leaves.
 ghost use mathlib.Core.Path.{_≡_};
+ghost use mathlib.Core.Bool.{true};
 ghost use lib.ListN.{length};
 ghost use Rattle.pll32.specs.Pll.{checkedSays};
 ghost use Rattle.tree.specs.Tree.{busesSays};
 ghost use Rattle.v30x.specs.V30x.{writtenSays};
 ghost use Rattle.capi_give.specs.Given.{Given, sixWords, sevenWords};
 ghost use Rattle.capi_pll32.specs.Bytes.{sevenOf};
-ghost use Rattle.capi_v30x.specs.Calls.{configPllSource, configPll, configPllx, configHsPll, configOf, pllAllowed, usbhsAllowed, configAllowed, readConfig, takenConfigSays, fieldsIn, fieldsAllowed, readFields, takenFieldsSays, bytesOf, fieldBytes, checkRead, decodeRead, initRead};
+ghost use Rattle.capi_v30x.specs.Calls.{configPllSource, configPll, configPllx, configHsPll, configOf, pllAllowed, usbhsAllowed, isConfig, fieldsIn, isFields, bytesOf, fieldBytes, checkRead, decodeRead, initRead};
 use pll32::Checked;
 use tree::Buses;
 use v30x::Config;
@@ -21,18 +22,6 @@ use v30x::Written;
 pub const V30X_CONFIG_SIZE: usize = 18;
 // Bytes of register fields of CH32V30x.
 pub const V30X_FIELDS_SIZE: usize = 9;
-
-// A configuration from its bytes, or a refusal number.
-pub enum TakenConfig {
-    Is(Config),
-    Refused(u8),
-}
-
-// Register fields from their bytes, or a refusal number.
-pub enum TakenFields {
-    Is(Fields),
-    Refused(u8),
-}
 
 fn pll_source(b: u8) -> PllSource
     ensures { λ r. ⌜ r ≡ configPllSource b ⌝ }
@@ -105,23 +94,13 @@ fn usbhs_allowed(b: &[u8]) -> bool
     (b[15] <= 1) & (b[16] <= 1) & ((b[16] == 1) | (b[17] == 0))
 }
 
-fn config_allowed(b: &[u8]) -> bool
-    requires { ⌜ length (now b) ≡ 18 ⌝ }
-    ensures { λ r. ⌜ r ≡ configAllowed (now (b .entry)) ⌝ }
-{
-    capi_pll32::hse_allowed(b[0], b[1], capi_pll32::hse_hz(b)) & pll_allowed(b) & usbhs_allowed(b)
-}
-
-fn take_config(b: &[u8]) -> TakenConfig
-    ensures { λ r. ⌜ takenConfigSays r ≡ readConfig (now (b .entry)) ⌝ }
+fn is_config(b: &[u8]) -> bool
+    ensures { λ r. ⌜ (r ≡ isConfig (now (b .entry))) × (r ≡ true → length (now (b .entry)) ≡ 18) ⌝ }
 {
     if b.len() != V30X_CONFIG_SIZE {
-        return TakenConfig::Refused(answer::CODE_NOT_ALLOWED);
+        return false;
     }
-    if !config_allowed(b) {
-        return TakenConfig::Refused(answer::CODE_NOT_ALLOWED);
-    }
-    TakenConfig::Is(config_of(b))
+    capi_pll32::hse_allowed(b[0], b[1], capi_pll32::hse_hz(b)) & pll_allowed(b) & usbhs_allowed(b)
 }
 
 fn fields_in(b: &[u8]) -> Fields
@@ -141,32 +120,22 @@ fn fields_in(b: &[u8]) -> Fields
     }
 }
 
-fn fields_allowed(b: &[u8]) -> bool
-    requires { ⌜ length (now b) ≡ 9 ⌝ }
-    ensures { λ r. ⌜ r ≡ fieldsAllowed (now (b .entry)) ⌝ }
-{
-    (b[1] <= 1) & (b[3] <= 1) & (b[8] <= 1)
-}
-
-fn take_fields(b: &[u8]) -> TakenFields
-    ensures { λ r. ⌜ takenFieldsSays r ≡ readFields (now (b .entry)) ⌝ }
+fn is_fields(b: &[u8]) -> bool
+    ensures { λ r. ⌜ (r ≡ isFields (now (b .entry))) × (r ≡ true → length (now (b .entry)) ≡ 9) ⌝ }
 {
     if b.len() != V30X_FIELDS_SIZE {
-        return TakenFields::Refused(answer::CODE_NOT_ALLOWED);
+        return false;
     }
-    if !fields_allowed(b) {
-        return TakenFields::Refused(answer::CODE_NOT_ALLOWED);
-    }
-    TakenFields::Is(fields_in(b))
+    (b[1] <= 1) & (b[3] <= 1) & (b[8] <= 1)
 }
 
 fn check(config: &[u8]) -> Checked
     ensures { λ r. ⌜ checkedSays r ≡ checkRead (now (config .entry)) ⌝ }
 {
-    match take_config(config) {
-        TakenConfig::Refused(n) => Checked::Refused(n),
-        TakenConfig::Is(c) => v30x::check(c),
+    if !is_config(config) {
+        return Checked::Refused(answer::CODE_NOT_ALLOWED);
     }
+    v30x::check(config_of(config))
 }
 
 // Checks a configuration of 18 bytes. Gives seven words: the six clocks, and twice the USB divisor, 0 where there is none.
@@ -181,10 +150,10 @@ pub extern "C" fn wontabeli_v30x_check(config: &[u8], out: &mut [u32]) -> u8
 fn decode(fields: &[u8], hse: u32) -> Buses
     ensures { λ r. ⌜ busesSays r ≡ decodeRead (now (fields .entry)) hse ⌝ }
 {
-    match take_fields(fields) {
-        TakenFields::Refused(n) => Buses::Refused(n),
-        TakenFields::Is(f) => v30x::decode(f, capi_give::decoder_hse(hse)),
+    if !is_fields(fields) {
+        return Buses::Refused(answer::CODE_NOT_ALLOWED);
     }
+    v30x::decode(fields_in(fields), capi_give::decoder_hse(hse))
 }
 
 // Decodes fields of 9 bytes, with HSE's frequency; 0 says that there is none. Gives six words: the six clocks.
@@ -199,13 +168,10 @@ pub extern "C" fn wontabeli_v30x_decode(fields: &[u8], hse: u32, out: &mut [u32]
 fn init_fields(config: &[u8], earlier: &[u8]) -> Written
     ensures { λ r. ⌜ writtenSays r ≡ initRead (now (config .entry)) (now (earlier .entry)) ⌝ }
 {
-    match take_config(config) {
-        TakenConfig::Refused(n) => Written::Refused(n),
-        TakenConfig::Is(c) => match take_fields(earlier) {
-            TakenFields::Refused(n) => Written::Refused(n),
-            TakenFields::Is(f) => v30x::init_fields(c, f),
-        },
+    if !is_config(config) | !is_fields(earlier) {
+        return Written::Refused(answer::CODE_NOT_ALLOWED);
     }
+    v30x::init_fields(config_of(config), fields_in(earlier))
 }
 
 fn bytes(f: Fields) -> [u8; 9]

@@ -1,33 +1,27 @@
-use borrow.Author.Tests.{lt-ltb, le-ltb}
+use mathlib.Core.Path.{sym}
+use mathlib.Core.Bool.{not}
+use borrow.Author.Tests.{not-false}
 use borrow.Author.Needs.{needs}
-use Rattle.capi_v1.specs.Calls.{takenConfigSays, checkRead}
-use Rattle.answer.specs.Answer.{told}
+use Rattle.answer.specs.Tools.{neither}
+use Rattle.capi_v1.specs.Calls.{checkRead}
 use Rattle.capi_v1.proofs.check.Statement.{statement}
 use Rattle.capi_v1.proofs.check.Tie as tie
 
 returns-2 : tie.Need-returns-2
 unfolding checkRead
 returns-2 c =
-    let if1 = c .before .before .before .before .if1 in
-    let take-config = c .before .before .before .take-config in
-    simp (le-ltb _ _ (if1 .left), told takenConfigSays (take-config .ensures) (c .before .n .given .1))
-
-returns-3 : tie.Need-returns-3
-unfolding checkRead
-returns-3 c =
-    let if1 = c .before .before .before .before .before .before .if1 in
-    let take-config = c .before .before .before .before .before .take-config in
-    let config = c .before .before .before .c in
+    let at-if1 = c .before .before .before in
     simp (
-      le-ltb _ _ (if1 .left),
-      told takenConfigSays (take-config .ensures) (config .given .1),
-      c .check .ensures,
-      c .before .chip .ensures,
+      sym (at-if1 .before .is-config .ensures .0),
+      at-if1 .if1 .left,
+      sym (c .before .before .chip .ensures),
+      sym (c .before .config-of .ensures),
     )
+    (c .check .ensures)
 
 pub check-spec : {M : Type 1} → statement M
 unfolding checkRead
 check-spec =
     tie.close
-    (tie.spec (λ c. simp (lt-ltb _ _ (c .if1 .taken)))
-    (search needs) (search needs) (search needs) (search needs) (search needs) returns-2 returns-3)
+    (tie.spec (search needs) (λ c. simp (sym (c .before .is-config .ensures .0), c .if1 .taken)) (search needs)
+    (λ c κs. c .before .before .is-config .ensures .1 (not-false _ (neither (not (c .before .before .is-config .result)) _ (c .before .if1 .left) .0))) (search needs) returns-2)

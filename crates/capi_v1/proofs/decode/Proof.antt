@@ -1,31 +1,28 @@
-use borrow.Author.Tests.{lt-ltb, le-ltb}
+use mathlib.Core.Path.{sym}
+use mathlib.Core.Bool.{not}
+use borrow.Author.Tests.{not-false}
 use borrow.Author.Needs.{needs}
-use Rattle.capi_v1.specs.Calls.{takenFieldsSays, decodeRead}
-use Rattle.answer.specs.Answer.{told}
+use Rattle.answer.specs.Tools.{neither}
+use Rattle.capi_v1.specs.Calls.{decodeRead}
 use Rattle.capi_v1.proofs.decode.Statement.{statement}
 use Rattle.capi_v1.proofs.decode.Tie as tie
 
 returns-2 : tie.Need-returns-2
 unfolding decodeRead
 returns-2 c =
-    let take-fields = c .before .before .before .take-fields in
-    simp (le-ltb _ _ (c .before .before .before .before .if1 .left), told takenFieldsSays (take-fields .ensures) (c .before .n .given .1))
-
-returns-3 : tie.Need-returns-3
-unfolding decodeRead
-returns-3 c =
-    let fields = c .before .before .before .before .f in
+    let at-if1 = c .before .before .before .before in
     simp (
-      le-ltb _ _ (c .before .before .before .before .before .before .before .if1 .left),
-      told takenFieldsSays (c .before .before .before .before .before .before .take-fields .ensures) (fields .given .1),
-      c .decode .ensures,
-      c .before .before .chip .ensures,
-      c .before .decoder-hse .ensures,
+      sym (at-if1 .before .is-fields .ensures .0),
+      at-if1 .if1 .left,
+      sym (c .before .before .before .chip .ensures),
+      sym (c .before .before .fields-in .ensures),
+      sym (c .before .decoder-hse .ensures),
     )
+    (c .decode .ensures)
 
 pub decode-spec : {M : Type 1} → statement M
 unfolding decodeRead
 decode-spec =
     tie.close
-    (tie.spec (λ c. simp (lt-ltb _ _ (c .if1 .taken)))
-    (search needs) (search needs) (search needs) (search needs) (search needs) (search needs) returns-2 returns-3)
+    (tie.spec (search needs) (λ c. simp (sym (c .before .is-fields .ensures .0), c .if1 .taken)) (search needs)
+    (λ c κs. c .before .before .is-fields .ensures .1 (not-false _ (neither (not (c .before .before .is-fields .result)) _ (c .before .if1 .left) .0))) (search needs) (search needs) returns-2)

@@ -1,42 +1,39 @@
-use borrow.Author.Tests.{lt-ltb, le-ltb}
+use mathlib.Core.Path.{_≡_, sym}
+use mathlib.Core.Bool.{false, not, _||_}
+use borrow.Author.Tests.{not-false}
 use borrow.Author.Needs.{needs}
-use Rattle.capi_v1.specs.Calls.{takenConfigSays, takenFieldsSays, initRead}
-use Rattle.answer.specs.Answer.{told}
+use Rattle.answer.specs.Tools.{neither}
+use Rattle.capi_v1.specs.Calls.{initRead}
 use Rattle.capi_v1.proofs.init_fields.Statement.{statement}
 use Rattle.capi_v1.proofs.init_fields.Tie as tie
+
+-- both are records
+records : (c : tie.Else1) → let at-is-fields = c .before in
+    (not (at-is-fields .before .is-config .result) ≡ false) × (not (at-is-fields .is-fields .result) ≡ false)
+records c =
+    let a = not (c .before .before .is-config .result) in
+    let b = not (c .before .is-fields .result) in
+    neither a b (neither (a || b) _ (c .if1 .left) .0)
 
 returns-2 : tie.Need-returns-2
 unfolding initRead
 returns-2 c =
-    let take-config = c .before .before .before .take-config in
-    simp (le-ltb _ _ (c .before .before .before .before .if1 .left), told takenConfigSays (take-config .ensures) (c .before .n .given .1))
-
-returns-3 : tie.Need-returns-3
-unfolding initRead
-returns-3 c =
-    let config = c .before .before .before .before .before .c in
+    let at-if1 = c .before .before .before .before in
     simp (
-      le-ltb _ _ (c .before .before .before .before .before .before .before .before .if1 .left),
-      told takenConfigSays (c .before .before .before .before .before .before .before .take-config .ensures) (config .given .1),
-      told takenFieldsSays (c .before .before .before .take-fields .ensures) (c .before .n2 .given .1),
+      sym (at-if1 .before .before .is-config .ensures .0),
+      sym (at-if1 .before .is-fields .ensures .0),
+      at-if1 .if1 .left,
+      sym (c .before .before .before .chip .ensures),
+      sym (c .before .before .config-of .ensures),
+      sym (c .before .fields-in .ensures),
     )
-
-returns-4 : tie.Need-returns-4
-unfolding initRead
-returns-4 c =
-    let config = c .before .before .before .before .before .before .before .c in
-    simp (
-      le-ltb _ _ (c .before .before .before .before .before .before .before .before .before .before .if1 .left),
-      told takenConfigSays (c .before .before .before .before .before .before .before .before .before .take-config .ensures) (config .given .1),
-      told takenFieldsSays (c .before .before .before .before .before .take-fields .ensures) (c .before .before .before .f .given .1),
-      c .init-fields .ensures,
-      c .before .chip .ensures,
-    )
+    (c .init-fields .ensures)
 
 pub init-fields-spec : {M : Type 1} → statement M
 unfolding initRead
 init-fields-spec =
     tie.close
-    (tie.spec (λ c. simp (lt-ltb _ _ (c .if1 .taken)))
-    (search needs) (search needs) (search needs) (search needs) (search needs) (search needs) (search needs) (search needs) returns-2
-    returns-3 returns-4)
+    (tie.spec (search needs) (search needs)
+    (λ c. simp (sym (c .before .before .is-config .ensures .0), sym (c .before .is-fields .ensures .0), c .if1 .taken)) (search needs)
+    (λ c κs. c .before .before .before .is-config .ensures .1 (not-false _ (records (c .before) .0)))
+    (λ c κs. c .before .before .before .is-fields .ensures .1 (not-false _ (records (c .before .before) .1))) (search needs) returns-2)

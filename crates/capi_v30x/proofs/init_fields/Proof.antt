@@ -1,32 +1,30 @@
+use mathlib.Core.Path.{sym}
+use mathlib.Core.Bool.{not}
+use borrow.Author.Tests.{not-false}
 use borrow.Author.Needs.{needs}
-use Rattle.capi_v30x.specs.Calls.{takenConfigSays, takenFieldsSays, initRead}
-use Rattle.answer.specs.Answer.{told}
+use Rattle.answer.specs.Tools.{neither}
+use Rattle.capi_v30x.specs.Calls.{initRead}
 use Rattle.capi_v30x.proofs.init_fields.Statement.{statement}
 use Rattle.capi_v30x.proofs.init_fields.Tie as tie
 
 returns-2 : tie.Need-returns-2
 unfolding initRead
 returns-2 c =
-    let config = c .before .before .before .before .before .c in
+    let at-if1 = c .before .before .before in
     simp (
-      told takenConfigSays (c .before .before .before .before .before .before .before .take-config .ensures) (config .given .1),
-      told takenFieldsSays (c .before .before .before .take-fields .ensures) (c .before .n2 .given .1),
+      sym (at-if1 .before .before .is-config .ensures .0),
+      sym (at-if1 .before .is-fields .ensures .0),
+      at-if1 .if1 .left,
+      sym (c .before .before .config-of .ensures),
+      sym (c .before .fields-in .ensures),
     )
-
-returns-3 : tie.Need-returns-3
-unfolding initRead
-returns-3 c =
-    let config = c .before .before .before .before .before .before .c in
-    simp (
-      told takenConfigSays (c .before .before .before .before .before .before .before .before .take-config .ensures) (config .given .1),
-      told takenFieldsSays (c .before .before .before .before .take-fields .ensures) (c .before .before .f .given .1),
-      c .init-fields .ensures,
-    )
+    (c .init-fields .ensures)
 
 pub init-fields-spec : {M : Type 1} → statement M
 unfolding initRead
 init-fields-spec =
     tie.close
-    (tie.spec (search needs) (search needs) (search needs) (search needs) (search needs) (search needs) (search needs)
-    (λ c. simp (told takenConfigSays (c .before .before .before .take-config .ensures) (c .before .n .given .1)))
-    returns-2 returns-3)
+    (tie.spec (search needs) (search needs)
+    (λ c. simp (sym (c .before .before .is-config .ensures .0), sym (c .before .is-fields .ensures .0), c .if1 .taken))
+    (λ c κs. c .before .before .is-config .ensures .1 (not-false _ (neither (not (c .before .before .is-config .result)) _ (c .if1 .left) .0)))
+    (λ c κs. c .before .before .is-fields .ensures .1 (not-false _ (neither (not (c .before .before .before .is-config .result)) _ (c .before .if1 .left) .1))) (search needs) returns-2)
