@@ -9,7 +9,7 @@ ghost use Prim.Native.Nat.{_+_, _≤_, _<_};
 ghost use Rattle.answer.specs.Said.{replySays};
 ghost use Rattle.startup.specs.Writes.{withSeen};
 ghost use Rattle.startup.specs.Steps.{nextOf, workOf};
-ghost use Rattle.startup.specs.Call.{numberOf, namedStep, seenOf, handedBack, moved, ended, met, waiting, missed, misread, compared, cameTo, waitedOf, eventOf, seeing, stepOf, startOf, startedSays, maskOf, waitsOwedOf, callBoundOf, keyOf};
+ghost use Rattle.startup.specs.Call.{numberOf, namedStep, seenOf, going, handedBack, moved, ended, met, waiting, missed, misread, compared, cameTo, waitedOf, eventOf, seeing, stepOf, startOf, startedSays, maskOf, waitsOwedOf, callBoundOf, keyOf};
 use answer::Reply;
 use image::Fields;
 use image::Seen;
@@ -339,6 +339,20 @@ fn work(s: Startup, promised: Clocks, reading: Reading) -> Stepped
     }
 }
 
+// A startup of which no step is worked.
+fn begun(config: Config, fields: Fields) -> Startup
+    ensures { λ r. ⌜ r ≡ going config fields 1 0 0 ⌝ }
+{
+    Startup {
+        config,
+        fields,
+        step: 1,
+        unmet: 0,
+        used: 0,
+        phase: Phase::Going,
+    }
+}
+
 impl Startup {
     // Starting: 28 for a code, then the check's refusals; it works no step.
     pub fn start(config: Config, earlier: Fields) -> Started
@@ -351,14 +365,7 @@ impl Startup {
         let Checked::Accepted(_) = checked else {
             return Started::NotStarted(refused(checked));
         };
-        Started::Begun(Startup {
-            config,
-            fields: earlier,
-            step: 1,
-            unmet: 0,
-            used: 0,
-            phase: Phase::Going,
-        })
+        Started::Begun(begun(config, earlier))
     }
 
     // One call: one step's work done or one reading used.

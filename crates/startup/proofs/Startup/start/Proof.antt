@@ -24,25 +24,20 @@ returns-2 c =
 returns-3 : tie.Need-returns-3
 unfolding startOf
 returns-3 c =
-    let in-width = c .before .before .before .before .in-width in
-    let if1 = c .before .before .before .if1 in
-    let clocks = c .before .before .clocks in
+    let in-width = c .before .before .before .before .before .in-width in
+    let if1 = c .before .before .before .before .if1 in
+    let clocks = c .before .before .before .clocks in
     simp (
       sym (in-width .ensures),
       not-false (in-width .result) (if1 .left),
-      told checkedSays (clocks .ensures) (c .enum-told .given .1),
+      told checkedSays (clocks .ensures) (c .before .enum-told .given .1),
+      c .begun .ensures,
     )
 
 pub start-spec : {M : Type 1} → statement M
 unfolding startOf
 start-spec =
     tie.close
-    (tie.spec
-    (search needs)
+    (tie.spec (search needs)
     (λ c. simp (sym (c .before .in-width .ensures), not-true (c .before .in-width .result) (c .if1 .taken)))
-    (search needs)
-    (search needs)
-    (search needs)
-    (search needs)
-    returns-2
-    returns-3)
+    (search needs) (search needs) (search needs) (search needs) returns-2 (search needs) returns-3)

@@ -1,8 +1,12 @@
 use mathlib.Core.Bool.{true, false, not}
-use mathlib.Core.Path.{_∙_}
+use mathlib.Core.Path.{_≡_, _∙_}
 use borrow.Author.Needs.{needs}
 use borrow.Author.Tests.{ltb-false}
 use Rattle.answer.specs.Tools.{neither}
+use Rattle.v4x7.specs.declared.Checked.{Checked}
+use Rattle.v4x7.specs.Check.{checkedSays}
+use Rattle.startup.specs.declared.Phase.the-variants.{Going}
+use Rattle.startup.specs.Call.{stepBy, stepOf}
 use Rattle.startup.proofs.Cases.{call-code, call-by, call-over, call-listed}
 use Rattle.startup.proofs.Startup.step.Statement.{statement}
 use Rattle.startup.proofs.Startup.step.Tie as tie
@@ -18,41 +22,30 @@ returns-2 c =
     let at-width = at-if .before in
     call-over _ _ (at-width .before .named-codes .ensures) (at-width .in-width .ensures) (at-if .if1 .left) _ (c .before .phase .given .1)
 
-returns-3 : tie.Need-returns-3
-returns-3 c =
-    let at-clocks = c .before .before .before in
-    let at-phase = at-clocks .before in
-    let at-if = at-phase .before .before in
+-- the check's answer, taken apart
+by-check : (c : tie.After-clocks) (j : Checked) → c .clocks .result ≡ j → let args = c .before .before .before .before .before .before .before .before .args in
+    stepBy (checkedSays j) (args .self) (args .reading) Going ≡ stepOf (args .self) (args .reading)
+by-check c =
+    let at-if = c .before .before .before in
     let at-width = at-if .before in
-    c .handed-back2 .ensures ∙
-    call-by _ _ (at-width .before .named-codes .ensures) (at-width .in-width .ensures) (at-if .if1 .left) (at-phase .enum-told .given .1)
-    (at-clocks .clocks .ensures) _ (c .before .enum-told2 .given .1)
+    call-by _ _ (at-width .before .named-codes .ensures) (at-width .in-width .ensures) (at-if .if1 .left) (c .before .enum-told .given .1) (c .clocks .ensures)
+
+returns-3 : tie.Need-returns-3
+returns-3 c = c .handed-back2 .ensures ∙ by-check (c .before .before .before) _ (c .before .enum-told2 .given .1)
 
 returns-4 : tie.Need-returns-4
 returns-4 c =
     let at-listed = c .before .before .before in
     let at-checked = at-listed .before .before in
-    let at-clocks = at-checked .before .before in
-    let at-phase = at-clocks .before in
-    let at-if = at-phase .before .before in
-    let at-width = at-if .before in
-    c .handed-back3 .ensures ∙
-    call-listed _ _ _ _ (at-listed .listed .ensures) true (c .before .if2 .taken) ∙
-    call-by _ _ (at-width .before .named-codes .ensures) (at-width .in-width .ensures) (at-if .if1 .left) (at-phase .enum-told .given .1)
-    (at-clocks .clocks .ensures) _ (at-checked .checked .given .1)
+    c .handed-back3 .ensures ∙ call-listed _ _ _ _ (at-listed .listed .ensures) true (c .before .if2 .taken) ∙
+    by-check (at-checked .before .before) _ (at-checked .checked .given .1)
 
 returns-5 : tie.Need-returns-5
 returns-5 c =
     let at-listed = c .before .before .before in
     let at-checked = at-listed .before .before in
-    let at-clocks = at-checked .before .before in
-    let at-phase = at-clocks .before in
-    let at-if = at-phase .before .before in
-    let at-width = at-if .before in
-    c .work .ensures ∙
-    call-listed _ _ _ _ (at-listed .listed .ensures) false (c .before .if2 .left) ∙
-    call-by _ _ (at-width .before .named-codes .ensures) (at-width .in-width .ensures) (at-if .if1 .left) (at-phase .enum-told .given .1)
-    (at-clocks .clocks .ensures) _ (at-checked .checked .given .1)
+    c .work .ensures ∙ call-listed _ _ _ _ (at-listed .listed .ensures) false (c .before .if2 .left) ∙
+    by-check (at-checked .before .before) _ (at-checked .checked .given .1)
 
 pub step-spec : {M : Type 1} → statement M
 step-spec =

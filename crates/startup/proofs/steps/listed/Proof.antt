@@ -14,6 +14,10 @@ use Rattle.startup.proofs.steps.listed.Tie as tie
 abbrev Part : tie.Start → Bool → ℕ → Type 0
 Part s there k = there ≡ listedOf (s .args .config) k
 
+returns-2 : tie.Need-returns-2
+unfolding listedOf
+returns-2 c = ap (listedOf (c .before .before .args .config)) (sym (c .before .match .keys2))
+
 returns-7 : tie.Need-returns-7
 returns-7 c =
     let args = c .before .before .args in
@@ -27,7 +31,7 @@ listed-spec =
     tie.close
     (tie.spec (search needs) (search needs) (search needs) (search needs)
     (λ c. c .from-usbhs .ensures ∙ ap (listedOf (c .before .before .args .config)) (sym (c .before .match .keys1)))
-    (λ c. ap (listedOf (c .before .before .args .config)) (sym (c .before .match .keys2)))
+    returns-2
     (λ c.
     let start = c .before .before .before .before in
     c .has-hse .ensures ∙
