@@ -29,11 +29,9 @@ unfolding phaseOf
 phase-again Going step used r = refl
 phase-again (Over (Worked s u)) step used r = absurd r
 phase-again (Over (Waiting s u)) step used r = absurd r
-phase-again (Over (Running s u)) step used (e, f) = ap (λ (k : ℕ). Over (Running k used)) (sym e) ∙ ap (λ (k : ℕ). Over (Running s k)) (sym f)
-phase-again (Over (Failed n s u)) step used (inl a, e, f) =
-    rw a (ap (λ (k : ℕ). Over (Failed 21 k used)) (sym e) ∙ ap (λ (k : ℕ). Over (Failed 21 s k)) (sym f))
-phase-again (Over (Failed n s u)) step used (inr a, e, f) =
-    rw a (ap (λ (k : ℕ). Over (Failed 22 k used)) (sym e) ∙ ap (λ (k : ℕ). Over (Failed 22 s k)) (sym f))
+phase-again (Over (Running s u)) step used (e, f) = rw (e, f)
+phase-again (Over (Failed n s u)) step used (inl a, e, f) = rw (a, e, f)
+phase-again (Over (Failed n s u)) step used (inr a, e, f) = rw (a, e, f)
 phase-again (Over (Refused n)) step used e = rw e
 
 tag-byte : (h : Phase) (step used : ℕ) → HeldPhase h step used → tagOf h < 256
@@ -98,16 +96,35 @@ module _ (x : Stepped) (p i rest : List ℕ) (a : length p ≡ 10) (b : length i
       let d : take 8 (drop 10 l) ≡ i = ap (take 8) (drop-at p (i ++ u) 10 a) ∙ take-at i u 8 b in
       ap keptOf e ∙ rw (take-at p (i ++ u) 10 a, d, c, f) (ap gives standing-again)
 
-pub kept-again : ReadsBack
+-- a place is a profile, an image and the tail
+pub record Parts (y : Stepped) (b : List ℕ) : Type 0 where
+  pub profile-part : List ℕ
+  pub image-part : List ℕ
+  pub ten : length profile-part ≡ 10
+  pub eight : length image-part ≡ 8
+  pub config : readProfile profile-part ≡ gives (y .startup .config)
+  pub fields : readImage image-part ≡ gives (y .startup .fields)
+  pub whole : profile-part ++ (image-part ++ tailOf y) ≡ b
+
+pub parts : (y : Stepped) (b : List ℕ) → placeOf y ≡ gives b → Parts y b
 unfolding placeOf
+parts y b e =
+    let st = y .startup in
+    let u = bound (profileBytes (st .config)) _ e in
+    let v = bound (imageBytes (st .fields)) _ (u .after) in
+    let g : gives (u .value ++ (v .value ++ tailOf y)) ≡ gives b = v .after in
+    record {
+      profile-part = u .value;
+      image-part = v .value;
+      ten = profile.inverse .size (st .config) (u .value) (u .gave);
+      eight = image.inverse .size (st .fields) (v .value) (v .gave);
+      config = profile.inverse .read-write (st .config) (u .value) (u .gave);
+      fields = image.inverse .read-write (st .fields) (v .value) (v .gave);
+      whole = cc;
+    }
+
+pub kept-again : ReadsBack
 kept-again x l rest s e =
-    let st = x .startup in
-    let p = bound (profileBytes (st .config)) _ e in
-    let i = bound (imageBytes (st .fields)) _ (p .after) in
-    let a : length (p .value) ≡ 10 = profile.inverse .size (st .config) (p .value) (p .gave) in
-    let b : length (i .value) ≡ 8 = image.inverse .size (st .fields) (i .value) (i .gave) in
-    let g : gives (p .value ++ (i .value ++ tailOf x)) ≡ gives l = i .after in
-    let o : p .value ++ (i .value ++ tailOf x) ≡ l = cc in
-    ap (λ (t : List ℕ). keptOf (t ++ rest)) (sym o)
-    ∙ kept-of x (p .value) (i .value) rest a b s
-    (profile.inverse .read-write (st .config) (p .value) (p .gave)) (image.inverse .read-write (st .fields) (i .value) (i .gave))
+    let o = parts x l e in
+    ap (λ (t : List ℕ). keptOf (t ++ rest)) (sym (o .whole))
+    ∙ kept-of x (o .profile-part) (o .image-part) rest (o .ten) (o .eight) s (o .config) (o .fields)

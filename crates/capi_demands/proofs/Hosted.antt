@@ -8,7 +8,7 @@ use borrow.Author.Tests.{le-ltb}
 use lib.Dec.{eqb, lit<}
 use lib.ListN.{length, drop, getD, length-append, List·getD-append}
 use lib.Seq.{drop-at, getD-append-add}
-use Rattle.answer.specs.Answer.{Answer, gives, bound}
+use Rattle.answer.specs.Answer.{Answer, gives}
 use Rattle.layout.specs.Layout.{packed}
 use Rattle.layout.specs.Lent.{written, after}
 use Rattle.v4x7.specs.declared.Config.{Config}
@@ -37,7 +37,7 @@ use Rattle.capi_startup.specs.Calls.{readingOf, startRead, begunWith, startByte
 use Rattle.capi.specs.Owed.{callsRead}
 use Rattle.capi_demands.specs.Place.{Storable}
 use Rattle.capi_demands.specs.Hosted.{Hosts, Shows, Tells, readings, Served, Demand3InC, HostsThere}
-use Rattle.capi_demands.proofs.Again.{kept-again}
+use Rattle.capi_demands.proofs.Again.{parts, kept-again}
 use Rattle.capi_demands.proofs.Stays.{starts-storable, stays-storable}
 use Rattle.capi_demands.proofs.Going.{Inside, Good, good, first-at}
 
@@ -48,29 +48,6 @@ given-all b l l′ k m h e g = ((rw (le-ltb (length l) 32 h, e) at (g .number)),
 image-given : (f : Fields) → inWidth f ≡ true → imageBytes f ≡ gives (packed 8 widths (listOf f))
 unfolding imageBytes
 image-given f h = rw h
-
--- a place is a profile, an image and the tail
-record Parts (y : Stepped) (b : List ℕ) : Type 0 where
-  profile-part : List ℕ
-  image-part : List ℕ
-  ten : length profile-part ≡ 10
-  eight : length image-part ≡ 8
-  whole : profile-part ++ (image-part ++ tailOf y) ≡ b
-
-parts : (y : Stepped) (b : List ℕ) → placeOf y ≡ gives b → Parts y b
-unfolding placeOf
-parts y b e =
-    let st = y .startup in
-    let u = bound (profileBytes (st .config)) _ e in
-    let v = bound (imageBytes (st .fields)) _ (u .after) in
-    let g : gives (u .value ++ (v .value ++ tailOf y)) ≡ gives b = v .after in
-    record {
-      profile-part = u .value;
-      image-part = v .value;
-      ten = profile.inverse .size (st .config) (u .value) (u .gave);
-      eight = image.inverse .size (st .fields) (v .value) (v .gave);
-      whole = cc;
-    }
 
 size : (y : Stepped) (b : List ℕ) → placeOf y ≡ gives b → length b ≡ 32
 unfolding tailOf
@@ -155,17 +132,13 @@ module _ (c : Config) {x : ClockRecord} (q : checkOf c ≡ gives x) (p : List �
     Calls ws rs m = (n : ℕ) → Given 32 (stepBytes (m n) (ws n)) (m n) (m (suc n)) (rs n)
 
     each-call : (n : ℕ) (ws rs : ℕ → ℕ) (m : ℕ → List ℕ) (y : Stepped) → Held (y .startup) → Shows y rest (m 0) → Calls ws rs m →
-        (rs n ≡ 0) × Shows (stepOf (run stepOf n (readings ws) (y .startup)) (readings ws n)) rest (m (suc n))
-    each-call zero ws rs m y h s g = one-call y (m 0) (m 1) (ws 0) (rs 0) h s (g 0)
+        (rs n ≡ 0) × Shows (stepOf (run stepOf n (readings ws) (y .startup)) (readings ws n)) rest (m (suc n)) ×
+        (keptOf (m n) ≡ gives (run stepOf n (readings ws) (y .startup)))
+    each-call zero ws rs m y h s g =
+        let one = one-call y (m 0) (m 1) (ws 0) (rs 0) h s (g 0) in
+        (one .0, one .1, kept-shown y (m 0) h s)
     each-call (suc n) ws rs m y h s g =
         each-call n (λ k. ws (suc k)) (λ k. rs (suc k)) (λ k. m (suc k)) (stepOf (y .startup) (readingOf (ws 0)))
-        (held-step (y .startup) (readingOf (ws 0)) h .0) (one-call y (m 0) (m 1) (ws 0) (rs 0) h s (g 0) .1) (λ k. g (suc k))
-
-    each-kept : (n : ℕ) (ws rs : ℕ → ℕ) (m : ℕ → List ℕ) (y : Stepped) → Held (y .startup) → Shows y rest (m 0) → Calls ws rs m →
-        keptOf (m n) ≡ gives (run stepOf n (readings ws) (y .startup))
-    each-kept zero ws rs m y h s g = kept-shown y (m 0) h s
-    each-kept (suc n) ws rs m y h s g =
-        each-kept n (λ k. ws (suc k)) (λ k. rs (suc k)) (λ k. m (suc k)) (stepOf (y .startup) (readingOf (ws 0)))
         (held-step (y .startup) (readingOf (ws 0)) h .0) (one-call y (m 0) (m 1) (ws 0) (rs 0) h s (g 0) .1) (λ k. g (suc k))
 
   begun-held : (f : Fields) → inWidth f ≡ true → Held (begun c f)
@@ -196,7 +169,7 @@ module _ (c : Config) {x : ClockRecord} (q : checkOf c ≡ gives x) (p : List �
           begins = s;
           steps = λ n. each-call rest n ws rs m y held s (g .step) .1;
           tells = λ n. tells _ rest (m (suc n)) (each-call rest n ws rs m y held s (g .step) .1);
-          keeps = λ n. each-kept rest n ws rs m y held s (g .step);
+          keeps = λ n. each-call rest n ws rs m y held s (g .step) .2;
           asked = call-bound;
           shown = demand3 c x q f w (readings ws) .1;
         }

@@ -4,7 +4,7 @@ use mathlib.Core.Path.{_≡_, sym, ap, _∙_}
 use mathlib.Core.List.{List, [], _++_, append-nil}
 use native.Mathlib.Omega.{arith}
 use lib.ListN.{length, replicate, length-append}
-use Rattle.answer.specs.Answer.{Answer, gives, refuses, _>>=_, _>>_}
+use Rattle.answer.specs.Answer.{Answer, gives, refuses, _>>=_, _>>_, told, gives-refuses, refuses-gives, same-refusal}
 use Rattle.answer.specs.Said.{outcomeSays}
 use Rattle.answer.specs.declared.Outcome.{Outcome}
 use Rattle.answer.specs.declared.Outcome.the-variants as outcome
@@ -23,18 +23,12 @@ written-whole : (m : Answer (List ℕ)) (l l′ : List ℕ) (r : Outcome) → r 
     → let w : Answer (List ℕ) = _>>=_ m (λ b. gives (b ++ [])) in
     outcomeSays r ≡ _>>_ w (gives tt) → l′ ≡ after l w → m ≡ gives l′
 written-whole (gives b) l l′ r q e k = ap gives (sym (k ∙ append-nil b))
-written-whole (refuses n) l l′ r q e k =
-    let d : outcomeSays outcome.Done ≡ refuses n = ap outcomeSays (sym q) ∙ e in
-    let z : _≡_ {A = ℕ} 0 1 = cc in absurd (omega arith)
+written-whole (refuses n) l l′ r q e k = refuses-gives (told outcomeSays e q)
 
 not-written : (m : Answer (List ℕ)) (k : ℕ) (r : Outcome) → r ≡ outcome.Refused k →
     outcomeSays r ≡ _>>_ (_>>=_ m (λ b. gives (b ++ []))) (gives tt) → m ≡ refuses k
-not-written (gives b) k r q e =
-    let d : outcomeSays (outcome.Refused k) ≡ gives tt = ap outcomeSays (sym q) ∙ e in
-    let z : _≡_ {A = ℕ} 0 1 = cc in absurd (omega arith)
-not-written (refuses n) k r q e =
-    let d : outcomeSays (outcome.Refused k) ≡ refuses n = ap outcomeSays (sym q) ∙ e in
-    let z : n ≡ k = cc in ap refuses z
+not-written (gives b) k r q e = gives-refuses (told outcomeSays e q)
+not-written (refuses n) k r q e = ap refuses (same-refusal (told outcomeSays e q))
 
 module _ (x : Stepped) (l p : List ℕ) (r : Outcome) (h : 32 ≤ length l)
     (w : Wrote 10 (profileBytes (x .startup .config)) (replicate 10 0) p r) where

@@ -59,27 +59,24 @@ mainOut source p f =
     let g = cond on (mainSource source p f) f in
     cond on (mainOn g) g
 
+-- The bits of the USBHS PLL and of the main PLL, in fields that have them clear.
+pll-bits : (h : Hse) (u : HsPll) (source : ℕ) (p : Pll) (f : Fields) → f .ctlr .«usbhs_pllon» ≡ false → f .ctlr .pllon ≡ false →
+    enableBits (mainOut source p (usbHsOut h u f) .ctlr) ≡
+    cond (f .ctlr .hseon) 8 0 + cond (f .ctlr .«eth_pllon») 4 0 + cond (hasUsbHs u) 2 0 + cond (hasMain p) 1 0
+pll-bits h hspll.Absent source pll.Absent f a b = rw (a, b)
+pll-bits h hspll.Absent source (pll.Mul m) f a b = rw a
+pll-bits h (hspll.From s) source pll.Absent f a b = rw b
+pll-bits h (hspll.From s) source (pll.Mul m) f a b = refl
+
 -- The parts that these turn on, after step 6, are those of the enable bits.
 turned-on : (h : Hse) (eth : Bool) (u : HsPll) (source : ℕ) (p : Pll) (f : Fields) →
     let g = hseOut h (allOff f) in
     enableBits (mainOut source p (usbHsOut h u (cond eth (ethOn g) g)) .ctlr) ≡
     cond (hasHse h) 8 0 + cond eth 4 0 + cond (hasUsbHs u) 2 0 + cond (hasMain p) 1 0
-turned-on hse.Absent false hspll.Absent source pll.Absent f = refl
-turned-on hse.Absent false hspll.Absent source (pll.Mul m) f = refl
-turned-on hse.Absent false (hspll.From s) source pll.Absent f = refl
-turned-on hse.Absent false (hspll.From s) source (pll.Mul m) f = refl
-turned-on hse.Absent true hspll.Absent source pll.Absent f = refl
-turned-on hse.Absent true hspll.Absent source (pll.Mul m) f = refl
-turned-on hse.Absent true (hspll.From s) source pll.Absent f = refl
-turned-on hse.Absent true (hspll.From s) source (pll.Mul m) f = refl
-turned-on (hse.Present b hz) false hspll.Absent source pll.Absent f = refl
-turned-on (hse.Present b hz) false hspll.Absent source (pll.Mul m) f = refl
-turned-on (hse.Present b hz) false (hspll.From s) source pll.Absent f = refl
-turned-on (hse.Present b hz) false (hspll.From s) source (pll.Mul m) f = refl
-turned-on (hse.Present b hz) true hspll.Absent source pll.Absent f = refl
-turned-on (hse.Present b hz) true hspll.Absent source (pll.Mul m) f = refl
-turned-on (hse.Present b hz) true (hspll.From s) source pll.Absent f = refl
-turned-on (hse.Present b hz) true (hspll.From s) source (pll.Mul m) f = refl
+turned-on hse.Absent false u source p f = pll-bits hse.Absent u source p (allOff f) refl refl
+turned-on hse.Absent true u source p f = pll-bits hse.Absent u source p (ethOn (allOff f)) refl refl
+turned-on (hse.Present b hz) false u source p f = let h = hse.Present b hz in pll-bits h u source p (hseOut h (allOff f)) refl refl
+turned-on (hse.Present b hz) true u source p f = let h = hse.Present b hz in pll-bits h u source p (ethOn (hseOut h (allOff f))) refl refl
 
 -- The main PLL's fields, where it is configured, are as step 16 wrote them; step 16 keeps CFGR2.
 main-laid : (source : ℕ) (p : Pll) (f g : Fields) → g .cfgr0 .pllsrc ≡ mainOut source p f .cfgr0 .pllsrc →
@@ -184,16 +181,11 @@ module _ (c : Config) {x : ClockRecord} (q : checkOf c ≡ gives x) (earlier : F
             (keeps (λ f. f .cfgr2 .usbhspllclk) (λ f. refl) (λ f. refl) (λ f n. refl) ∙ ap (λ r. r .usbhspllclk) two) (ok .usbhs);
       }
 
+  eqb-self : (n : ℕ) → eqb n n ≡ true
+  eqb-self n = eq-eqb n n refl
+
   same-self : (k : Clocks) → sameClocks k k ≡ true
-  same-self k =
-      simp (
-        eq-eqb (k .sysclk) (k .sysclk) refl,
-        eq-eqb (k .hclk) (k .hclk) refl,
-        eq-eqb (k .pclk1) (k .pclk1) refl,
-        eq-eqb (k .pclk2) (k .pclk2) refl,
-        eq-eqb (k .«pclk1_tim») (k .«pclk1_tim») refl,
-        eq-eqb (k .«pclk2_tim») (k .«pclk2_tim») refl,
-      )
+  same-self k = simp eqb-self
 
   -- What holds at step 28.
   abbrev pub Ends : ℕ → Fields → Type 0

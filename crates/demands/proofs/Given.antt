@@ -1,7 +1,7 @@
 -- Each number of the first demand's lists is given: an input for each, and its definition computed.
 -- Assumes nothing.
 use Prim.Native.Nat.{ℕ}
-use mathlib.Core.Path.{_≡_, refl, ap}
+use mathlib.Core.Path.{_≡_, refl, ap, _∙_}
 use mathlib.Core.Bool.{Bool, true, false}
 use mathlib.Core.List.{List, [], _∷_, map}
 use native.Mathlib.Omega.{arith}
@@ -43,11 +43,17 @@ by-row of (i ∷ is) (n ∷ l) e = (by i (cc e), by-row of is l (cc e))
 by-row of [] (n ∷ l) e = absurd (let z : _≡_ {A = ℕ} 0 1 = cc in omega arith)
 by-row of (i ∷ is) [] e = absurd (let z : _≡_ {A = ℕ} 0 1 = cc in omega arith)
 
--- where one call refuses as another does
-pub each-from : {I J A B : Type 0} (of : I → Answer A) (other : J → Answer B) → ((n : ℕ) → Refusing of n → Refusing other n) → (l : List ℕ) →
-    EachGiven of l → EachGiven other l
-each-from of other h [] e = tt
-each-from of other h (n ∷ l) e = (h n (e .0), each-from of other h l (e .1))
+-- a call that goes on from another refuses as that does
+refused-behind : {A B : Type 0} (n : ℕ) (m : Answer A) (f : A → Answer B) → m ≡ refuses n → (_>>=_ m f) ≡ refuses n
+refused-behind n (gives a) f e = gives-refuses e
+refused-behind n (refuses k) f e = ap refuses (same-refusal e)
+
+pub each-behind : {I J A B : Type 0} (of : I → Answer A) (other : J → Answer B) (into : I → J) (f : I → A → Answer B) →
+    ((i : I) → other (into i) ≡ _>>=_ (of i) (f i)) → (l : List ℕ) → EachGiven of l → EachGiven other l
+each-behind of other into f goes [] e = tt
+each-behind of other into f goes (n ∷ l) e =
+    let i = e .0 .input in
+    (by (into i) (goes i ∙ refused-behind n (of i) (f i) (e .0 .number)), each-behind of other into f goes l (e .1))
 
 -- a configuration: HSE, system clock, PLL source, PLL, SYSPLL source, USBHS PLL, ETH PLL, RNG, ADC source; all prescalers at 1, the ADC's at 8
 abbrev setup : Hse → ℕ → ℕ → Pll → ℕ → HsPll → Bool → ℕ → AdcClockSource → Config
@@ -170,20 +176,13 @@ pub rng-queries : EachGiven (λ (x : Fields × ℕ). rngQueryOf (x .0) (x .1)) (
 unfolding rngQueryOf image.inWidths
 rng-queries = (by (fields 4 false 0 0 0 0, 0) refl, tt)
 
--- a refusal isn't overtaken by what follows
-pub stays-bound : {A B : Type 0} (n : ℕ) (m : Answer A) (f : A → Answer B) → m ≡ refuses n → (_>>=_ m f) ≡ refuses n
-stays-bound n (gives a) f e = gives-refuses e
-stays-bound n (refuses k) f e = ap refuses (same-refusal e)
-
-stays : {A B : Type 0} (n : ℕ) (m : Answer A) (p : Answer B) → m ≡ refuses n → (_>>_ m p) ≡ refuses n
-stays n (gives a) p e = gives-refuses e
-stays n (refuses k) p e = ap refuses (same-refusal e)
-
-start-from : (n : ℕ) → Refusing checkOf n → Refusing (λ (x : Config × Fields). startOf (x .0) (x .1)) n
-unfolding startOf image.inWidths
-start-from n r =
-    let clear = fields 0 false 0 0 0 0 in
-    by (r .input, clear) (stays n (checkOf (r .input)) (gives (going (r .input) clear 1 0 0)) (r .number))
+then-bound : {A B : Type 0} (m : Answer A) (p : Answer B) → (_>>_ m p) ≡ (_>>=_ m (λ a. p))
+then-bound (gives a) p = refl
+then-bound (refuses k) p = refl
 
 pub starts : EachGiven (λ (x : Config × Fields). startOf (x .0) (x .1)) checkGiven
-starts = each-from checkOf (λ (x : Config × Fields). startOf (x .0) (x .1)) start-from checkGiven checks
+unfolding startOf image.inWidths
+starts =
+    let clear = fields 0 false 0 0 0 0 in
+    each-behind checkOf (λ x. startOf (x .0) (x .1)) (λ c. (c, clear)) (λ c x. gives (going c clear 1 0 0))
+    (λ c. then-bound (checkOf c) (gives (going c clear 1 0 0))) checkGiven checks

@@ -37,8 +37,8 @@ use Rattle.v30x.specs.declared.Fields as in30
 use Rattle.v30x.specs.V30x as v30x
 use Rattle.h4.specs.declared.Prescale.{Prescale}
 use Rattle.h4.specs.H4.{pclkOf, doubledOf, prescaledOf}
-use Rattle.demands.specs.First.{Refusing, EachGiven, checkGiven1, checkGiven30, Demand1Exact}
-use Rattle.demands.proofs.Given.{by, by-row, each-from, stays-bound, checks, starts, decodes, adc-queries, rng-queries}
+use Rattle.demands.specs.First.{EachGiven, checkGiven1, checkGiven30, Demand1Exact}
+use Rattle.demands.proofs.Given.{by, by-row, each-behind, checks, starts, decodes, adc-queries, rng-queries}
 use Rattle.demands.proofs.Given.{read-profiles, read-images, write-profiles, write-images}
 
 abbrev xtal : ℕ → Hse
@@ -65,17 +65,12 @@ checks1 =
 abbrev fields1 : ℕ → Bool → ℕ → in1.Fields
 fields1 sws src mul = record { sws = sws; pllsrc = src; pllxtpre = false; pllmul = mul; hpre = 0; ppre1 = 0; ppre2 = 0; hsipre = false }
 
-fields-from1 : (n : ℕ) → Refusing (λ (x : Chip × config1.Config). v1.checkOf (x .0) (x .1)) n →
-    Refusing (λ (x : Chip × config1.Config × in1.Fields). v1.fieldsOf (x .0) (x .1) (x .2)) n
-unfolding v1.fieldsOf v1.wideFields
-fields-from1 n r =
-    let f = fields1 0 false 0 in
-    by (r .input .0, r .input .1, f) (stays-bound n (v1.checkOf (r .input .0) (r .input .1)) (λ x. gives (v1.writtenOf (r .input .1) f)) (r .number))
-
 writes1 : EachGiven (λ (x : Chip × config1.Config × in1.Fields). v1.fieldsOf (x .0) (x .1) (x .2)) checkGiven1
+unfolding v1.fieldsOf v1.wideFields
 writes1 =
-    each-from (λ (x : Chip × config1.Config). v1.checkOf (x .0) (x .1))
-    (λ (x : Chip × config1.Config × in1.Fields). v1.fieldsOf (x .0) (x .1) (x .2)) fields-from1 checkGiven1 checks1
+    let f = fields1 0 false 0 in
+    each-behind (λ (x : Chip × config1.Config). v1.checkOf (x .0) (x .1)) (λ x. v1.fieldsOf (x .0) (x .1) (x .2)) (λ x. (x .0, x .1, f))
+    (λ x k. gives (v1.writtenOf (x .1) f)) (λ x. refl) checkGiven1 checks1
 
 decodes1 : EachGiven (λ (x : Chip × in1.Fields × HseFrequency). v1.decodeOf (x .0) (x .1) (x .2)) (28 ∷ 3 ∷ 24 ∷ [])
 unfolding v1.decodeOf v1.settingIn decodedClocksOf decodedSysclkOf pllOutputOf multipliedOf factor over
@@ -124,14 +119,11 @@ abbrev fields30 : ℕ → Bool → ℕ → in30.Fields
 fields30 sws pll2 mul =
     record { sws = sws; pllsrc = true; prediv1 = 0; prediv1src = pll2; pllmul = mul; hpre = 0; ppre1 = 0; ppre2 = 0; hsipre = false }
 
-fields-from30 : (n : ℕ) → Refusing v30x.checkOf n → Refusing (λ (x : config30.Config × in30.Fields). v30x.fieldsOf (x .0) (x .1)) n
-unfolding v30x.fieldsOf v30x.wideFields
-fields-from30 n r =
-    let f = fields30 0 false 0 in
-    by (r .input, f) (stays-bound n (v30x.checkOf (r .input)) (λ x. gives (v30x.writtenOf (r .input) f)) (r .number))
-
 writes30 : EachGiven (λ (x : config30.Config × in30.Fields). v30x.fieldsOf (x .0) (x .1)) checkGiven30
-writes30 = each-from v30x.checkOf (λ (x : config30.Config × in30.Fields). v30x.fieldsOf (x .0) (x .1)) fields-from30 checkGiven30 checks30
+unfolding v30x.fieldsOf v30x.wideFields
+writes30 =
+    let f = fields30 0 false 0 in
+    each-behind v30x.checkOf (λ x. v30x.fieldsOf (x .0) (x .1)) (λ c. (c, f)) (λ c k. gives (v30x.writtenOf c f)) (λ c. refl) checkGiven30 checks30
 
 decodes30 : EachGiven (λ (x : in30.Fields × HseFrequency). v30x.decodeOf (x .0) (x .1)) (28 ∷ 27 ∷ 3 ∷ 24 ∷ [])
 unfolding v30x.decodeOf v30x.wideFields v30x.settingIn decodedClocksOf decodedSysclkOf pllOutputOf multipliedOf factor over

@@ -36,14 +36,6 @@ pub check-spec : {M : Type 1} → statement M
 unfolding checkRead
 check-spec =
     tie.close
-    (tie.spec
-    (search needs)
-    (search needs)
-    (search needs)
-    (search needs)
-    (search needs)
-    (search needs)
-    (search needs)
-    returns
+    (tie.spec (search needs) (search needs) (search needs) (search needs) (search needs) (search needs) (search needs) returns
     (λ c. simp (told readProfileSays (c .before .before .before .read-profile .ensures) (c .before .n .given .1)))
     returns-3)

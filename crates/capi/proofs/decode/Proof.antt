@@ -6,10 +6,6 @@ use Rattle.answer.specs.Answer.{told}
 use Rattle.capi.proofs.decode.Statement.{statement}
 use Rattle.capi.proofs.decode.Tie as tie
 
-returns : tie.Need-returns
-unfolding decodeRead
-returns c = simp (told readImageSays (c .before .before .before .read-image .ensures) (c .before .n .given .1))
-
 returns-2 : tie.Need-returns-2
 unfolding decodeRead
 returns-2 c =
@@ -19,6 +15,8 @@ returns-2 c =
     (c .decode .ensures)
 
 pub decode-spec : {M : Type 1} → statement M
+unfolding decodeRead
 decode-spec =
     tie.close
-    (tie.spec (search needs) (search needs) (search needs) (search needs) (search needs) returns returns-2)
+    (tie.spec (search needs) (search needs) (search needs) (search needs) (search needs)
+    (λ c. simp (told readImageSays (c .before .before .before .read-image .ensures) (c .before .n .given .1))) returns-2)

@@ -8,14 +8,4 @@ cfgr0-of-spec =
     tie.close
     (tie.spec (search needs) (search needs) (search needs) (search needs) (search needs) (search needs) (search needs) (search needs)
     (search needs)
-    (λ c. rw (
-      c .before .before .before .before .before .before .before .before .field .ensures,
-      c .before .before .before .before .before .before .before .field2 .ensures,
-      c .before .before .before .before .before .before .field3 .ensures,
-      c .before .before .before .before .before .field4 .ensures,
-      c .before .before .before .before .field5 .ensures,
-      c .before .before .before .field6 .ensures,
-      c .before .before .field7 .ensures,
-      c .before .field8 .ensures,
-      c .field9 .ensures,
-    )))
+    (λ c. cc))

@@ -9,11 +9,4 @@ unfolding fieldsOf
 fields-of-spec =
     tie.close
     (tie.spec (search needs) (search needs) (search needs) (search needs) (search needs) (search needs)
-    (λ c. rw (
-      c .before .before .before .before .before .flash-of .ensures,
-      c .before .before .before .before .ctlr-of .ensures,
-      c .before .before .before .seen-of .ensures,
-      c .before .before .cfgr0-of .ensures,
-      c .before .cfgr2-of .ensures,
-      c .field .ensures,
-    )))
+    (λ c. cc))

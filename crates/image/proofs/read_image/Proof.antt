@@ -6,10 +6,6 @@ use borrow.Author.Needs.{needs}
 use Rattle.image.proofs.read_image.Statement.{statement}
 use Rattle.image.proofs.read_image.Tie as tie
 
-returns-2 : tie.Need-returns-2
-unfolding readImage
-returns-2 c = simp (eq-eqb _ _ (c .before .before .if1 .left), sym (c .before .field .ensures), ne-eqb _ _ (c .if2 .taken))
-
 returns-3 : tie.Need-returns-3
 unfolding readImage
 returns-3 c =
@@ -23,4 +19,6 @@ returns-3 c =
 pub read-image-spec : {M : Type 1} → statement M
 unfolding readImage
 read-image-spec =
-    tie.close (tie.spec (λ c. simp (ne-eqb _ _ (c .if1 .taken))) (search needs) returns-2 (search needs) returns-3)
+    tie.close
+    (tie.spec (λ c. simp (ne-eqb _ _ (c .if1 .taken))) (search needs)
+    (λ c. simp (eq-eqb _ _ (c .before .before .if1 .left), sym (c .before .field .ensures), ne-eqb _ _ (c .if2 .taken))) (search needs) returns-3)

@@ -7,11 +7,4 @@ pub seen-of-spec : {M : Type 1} → statement M
 seen-of-spec =
     tie.close
     (tie.spec (search needs) (search needs) (search needs) (search needs) (search needs) (search needs)
-    (λ c. rw (
-      c .before .before .before .before .before .field .ensures,
-      c .before .before .before .before .field2 .ensures,
-      c .before .before .before .field3 .ensures,
-      c .before .before .field4 .ensures,
-      c .before .field5 .ensures,
-      c .field6 .ensures,
-    )))
+    (λ c. cc))

@@ -4,11 +4,8 @@ use borrow.Author.Needs.{needs}
 use Rattle.layout.proofs.fits_in.Statement.{statement}
 use Rattle.layout.proofs.fits_in.Tie as tie
 
-returns : tie.Need-returns
-returns c = simp (le-leb _ _ (c .before .before .if1 .taken), c .before .wide .ensures .0, c .two .ensures)
-
-returns-2 : tie.Need-returns-2
-returns-2 c = simp (lt-leb _ _ (c .if1 .left))
-
 pub fits-in-spec : {M : Type 1} → statement M
-fits-in-spec = tie.close (tie.spec (search needs) (search needs) returns returns-2)
+fits-in-spec =
+    tie.close
+    (tie.spec (search needs) (search needs) (λ c. simp (le-leb _ _ (c .before .before .if1 .taken), c .before .wide .ensures .0, c .two .ensures))
+    (λ c. simp (lt-leb _ _ (c .if1 .left))))

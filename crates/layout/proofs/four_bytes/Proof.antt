@@ -4,8 +4,5 @@ use borrow.Author.Needs.{needs}
 use Rattle.layout.proofs.four_bytes.Statement.{statement}
 use Rattle.layout.proofs.four_bytes.Tie as tie
 
-returns : tie.Need-returns
-returns c = simp div-one
-
 pub four-bytes-spec : {M : Type 1} → statement M
-four-bytes-spec = tie.close (tie.spec (search needs) (search needs) (search needs) (search needs) returns)
+four-bytes-spec = tie.close (tie.spec (search needs) (search needs) (search needs) (search needs) (λ c. simp div-one))

@@ -6,8 +6,5 @@ use borrow.Author.Needs.{needs}
 use Rattle.layout.proofs.two.Statement.{statement}
 use Rattle.layout.proofs.two.Tie as tie
 
-returns : tie.Need-returns
-returns c = rw one-mul (mod-eq-of-lt (pow-lt {j = 64} (omega arith)))
-
 pub two-spec : {M : Type 1} → statement M
-two-spec = tie.close (tie.spec (search needs) returns)
+two-spec = tie.close (tie.spec (search needs) (λ c. rw one-mul (mod-eq-of-lt (pow-lt {j = 64} (omega arith)))))

@@ -4,11 +4,6 @@ use borrow.Author.Tests.{lt-ltb, le-ltb}
 use Rattle.layout.proofs.up_to.Statement.{statement}
 use Rattle.layout.proofs.up_to.Tie as tie
 
-returns : tie.Need-returns
-returns c = (simp (lt-ltb _ _ (c .if1 .taken)), omega arith)
-
-returns-2 : tie.Need-returns-2
-returns-2 c = (simp (le-ltb _ _ (c .if1 .left)), omega arith)
-
 pub up-to-spec : {M : Type 1} → statement M
-up-to-spec = tie.close (tie.spec returns returns-2)
+up-to-spec =
+    tie.close (tie.spec (λ c. (simp (lt-ltb _ _ (c .if1 .taken)), omega arith)) (λ c. (simp (le-ltb _ _ (c .if1 .left)), omega arith)))
