@@ -5,16 +5,11 @@ use Rattle.answer.specs.Answer.{told}
 use Rattle.capi.proofs.calls.Statement.{statement}
 use Rattle.capi.proofs.calls.Tie as tie
 
-returns-2 : tie.Need-returns-2
-unfolding callsRead
-returns-2 c =
-    let at-config = c .before .before in
-    simp (told readProfileSays (at-config .before .before .read-profile .ensures) (at-config .config .given .1), (c .call-bound .ensures))
-
 pub calls-spec : {M : Type 1} → statement M
 unfolding callsRead
 calls-spec =
     tie.close
     (tie.spec (search needs) (search needs) (search needs) (search needs)
     (λ c. simp (told readProfileSays (c .before .before .before .read-profile .ensures) (c .before .n .given .1)))
-    returns-2)
+    (λ c. let at-config = c .before .before in
+    simp (told readProfileSays (at-config .before .before .read-profile .ensures) (at-config .config .given .1), (c .call-bound .ensures))))

@@ -11,10 +11,9 @@ unfolding checkRead
 returns c =
     let at-clocks = c .before .before .before in
     let at-config = at-clocks .before .before in
-    let at-read-profile = at-config .before .before in
     let not-accepted = c .before .enum-told .given .1 in
     simp (
-      told readProfileSays (at-read-profile .read-profile .ensures) (at-config .config .given .1),
+      told readProfileSays (at-config .before .before .read-profile .ensures) (at-config .config .given .1),
       told checkedSays (at-clocks .clocks .ensures) not-accepted,
       c .refused .ensures,
       not-accepted,
@@ -26,9 +25,8 @@ returns-3 c =
     let at-checked = c .before .before in
     let at-clocks = at-checked .before .before in
     let at-config = at-clocks .before .before in
-    let at-read-profile = at-config .before .before in
     simp (
-      told readProfileSays (at-read-profile .read-profile .ensures) (at-config .config .given .1),
+      told readProfileSays (at-config .before .before .read-profile .ensures) (at-config .config .given .1),
       told checkedSays (at-clocks .clocks .ensures) (at-checked .checked .given .1),
     )
 

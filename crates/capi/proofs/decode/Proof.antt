@@ -10,8 +10,7 @@ returns-2 : tie.Need-returns-2
 unfolding decodeRead
 returns-2 c =
     let at-fields = c .before .before .before in
-    let at-read-image = at-fields .before .before in
-    simp (told readImageSays (at-read-image .read-image .ensures) (at-fields .fields .given .1), sym (c .before .decoder-hse .ensures))
+    simp (told readImageSays (at-fields .before .before .read-image .ensures) (at-fields .fields .given .1), sym (c .before .decoder-hse .ensures))
     (c .decode .ensures)
 
 pub decode-spec : {M : Type 1} → statement M

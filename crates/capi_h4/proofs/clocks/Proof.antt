@@ -6,17 +6,12 @@ use Rattle.capi_h4.specs.Calls.{clocksAhbOf}
 use Rattle.capi_h4.proofs.clocks.Statement.{statement}
 use Rattle.capi_h4.proofs.clocks.Tie as tie
 
-returns : tie.Need-returns
-unfolding clocksAhbOf
-returns c =
-    let at-clocks = c .before .before .before in
-    simp (sym (at-clocks .before .hertz .ensures), told prescaledSays (at-clocks .clocks-from-sysclk .ensures) (c .before .n .given .1))
-
-returns-2 : tie.Need-returns-2
-unfolding clocksAhbOf
-returns-2 c =
-    let at-clocks = c .before .before .before in
-    simp (sym (at-clocks .before .hertz .ensures), told prescaledSays (at-clocks .clocks-from-sysclk .ensures) (c .before .ahb .given .1))
-
 pub clocks-spec : {M : Type 1} → statement M
-clocks-spec = tie.close (tie.spec (search needs) (search needs) (search needs) (search needs) returns returns-2)
+unfolding clocksAhbOf
+clocks-spec =
+    tie.close
+    (tie.spec (search needs) (search needs) (search needs) (search needs)
+    (λ c. let at-clocks = c .before .before .before in
+    simp (sym (at-clocks .before .hertz .ensures), told prescaledSays (at-clocks .clocks-from-sysclk .ensures) (c .before .n .given .1)))
+    (λ c. let at-clocks = c .before .before .before in
+    simp (sym (at-clocks .before .hertz .ensures), told prescaledSays (at-clocks .clocks-from-sysclk .ensures) (c .before .ahb .given .1))))

@@ -5,14 +5,10 @@ use lib.Seq.{length-take-le}
 use Rattle.replay.proofs.codec.write_image.Statement.{statement}
 use Rattle.replay.proofs.codec.write_image.Tie as tie
 
-slice-aggregate-write-image : tie.Need-slice-aggregate-write-image
-slice-aggregate-write-image c =
-    let length = c .before .before .before .length in
-    let fill = getD (c .before .before .before .before .before .args .q .now) 35 0 in
-    sym (length-take-le (length .result) (replicate 32 fill) (length .ensures))
-
 pub write-image-spec : {M : Type 1} → statement M
 write-image-spec =
     tie.close
-    (tie.spec (search needs) (search needs) (search needs) (search needs) (search needs) slice-aggregate-write-image (search needs) (search needs)
-    (search needs))
+    (tie.spec (search needs) (search needs) (search needs) (search needs) (search needs)
+    (λ c. let at-length = c .before .before .before in
+    sym (length-take-le _ (replicate 32 (getD (at-length .before .before .args .q .now) 35 0)) (at-length .length .ensures)))
+    (search needs) (search needs) (search needs))
