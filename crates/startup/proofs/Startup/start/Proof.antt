@@ -11,12 +11,10 @@ returns-2 : tie.Need-returns-2
 unfolding startOf
 returns-2 c =
     let in-width = c .before .before .before .before .before .in-width in
-    let if1 = c .before .before .before .before .if1 in
-    let clocks = c .before .before .before .clocks in
     simp (
       sym (in-width .ensures),
-      not-false (in-width .result) (if1 .left),
-      told checkedSays (clocks .ensures) (c .before .enum-told2 .given .1),
+      not-false (in-width .result) (c .before .before .before .before .if1 .left),
+      told checkedSays (c .before .before .before .clocks .ensures) (c .before .enum-told2 .given .1),
       c .refused .ensures,
       c .before .enum-told2 .given .1,
     )
@@ -25,12 +23,10 @@ returns-3 : tie.Need-returns-3
 unfolding startOf
 returns-3 c =
     let in-width = c .before .before .before .before .before .in-width in
-    let if1 = c .before .before .before .before .if1 in
-    let clocks = c .before .before .before .clocks in
     simp (
       sym (in-width .ensures),
-      not-false (in-width .result) (if1 .left),
-      told checkedSays (clocks .ensures) (c .before .enum-told .given .1),
+      not-false (in-width .result) (c .before .before .before .before .if1 .left),
+      told checkedSays (c .before .before .before .clocks .ensures) (c .before .enum-told .given .1),
       c .begun .ensures,
     )
 
