@@ -1,0 +1,4 @@
+pub mod Serial
+pub mod Order
+pub mod Laws
+pub mod Rows
