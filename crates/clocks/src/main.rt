@@ -1,4 +1,4 @@
-// Reads a profile from standard input, and writes its lines, or the line of its refusal, to standard output.
+// Reads a profile and up to eight serial ports from standard input, and writes their lines, or the line of the profile's refusal, to standard output.
 use text::Put;
 
 // Reads on, and answers whether something came.
@@ -17,9 +17,9 @@ fn drain() {
     }
 }
 
-// Writes the answer to an input. Every text has room: the seven lines take 125 bytes at most.
+// Writes the answer to an input. Every text has room.
 fn answer(input: &[u8]) -> bool {
-    let mut out = [0u8; 125];
+    let mut out = [0u8; report::TEXT];
     let Put::At(n) = report::report(input, &mut out) else {
         return false;
     };
@@ -27,8 +27,8 @@ fn answer(input: &[u8]) -> bool {
 }
 
 fn main() {
-    // One byte more than a profile has, so that a longer input is seen to be longer.
-    let mut input = [0u8; 11];
+    // One byte more than a profile and eight ports have, so that a longer input is seen to be longer.
+    let mut input = [0u8; 51];
     let n = io::read_full(0, &mut input);
     drain();
     answer(&input[..n]);

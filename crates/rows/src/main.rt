@@ -8,9 +8,9 @@ fn wide(x: u8) -> usize
     x as usize
 }
 
-// Writes the answer to an input. Every text has room: the seven lines take 125 bytes at most.
+// Writes the answer to an input. Every text has room.
 fn answer(input: &[u8]) -> bool {
-    let mut out = [0u8; 125];
+    let mut out = [0u8; report::TEXT];
     let Put::At(n) = report::report(input, &mut out) else {
         return false;
     };

@@ -1,7 +1,7 @@
 -- A number that is spelt at the end of ten bytes, as a part of a text.
 -- Assumes nothing.
 use mathlib.Core.Path.{_≡_}
-use mathlib.Core.List.{List}
+use mathlib.Core.List.{List, _∷_}
 use Prim.Native.Nat.{ℕ, _+_, _-_}
 use native.Mathlib.Omega.{arith}
 use lib.ListN.{length, take, drop, length-append}
@@ -17,3 +17,7 @@ number-part ten first n e s = rw e (take-all (10 - first) (decimal n) (omega ari
 pub line-length : (name : List ℕ) (first n : ℕ) → first + length (decimal n) ≡ 10 → length name + (12 - first) ≡ length (lineOf name n)
 unfolding lineOf
 line-length name first n s = simp length-append (omega arith)
+
+-- the length of the number behind a minus sign
+pub minus-length : (first n : ℕ) → first + length (decimal n) ≡ 10 → 11 - first ≡ length (45 ∷ decimal n)
+minus-length first n s = omega arith

@@ -2,16 +2,19 @@
 -- Assumes nothing.
 use mathlib.Core.Path.{_≡_, refl, sym, ap, _∙_}
 use mathlib.Core.Bool.{Bool, true, false}
-use mathlib.Core.List.{List, _++_, append-assoc}
-use Prim.Native.Nat.{ℕ, _+_, _^_, _<_, _≤_}
-use native.Mathlib.Nat.{add-assoc}
+use mathlib.Core.List.{List, [], _++_, append-assoc}
+use Prim.Native.Nat.{ℕ, suc, _+_, _^_, _<_, _≤_}
+use native.Mathlib.Nat.{add-zero, add-assoc}
 use native.Mathlib.Omega.{arith}
 use borrow.Author.Tests.{le-ltb, ltb-false}
 use lib.Dec.{ltb}
+use lib.IntN.{ℤ, pos, negsuc}
 use lib.ListN.{length, take, drop, length-append, length-drop}
-use lib.Seq.{length-take-le, take-at, drop-append-add, drop-drop}
+use lib.Seq.{length-take-le, take-at, drop-append-add, drop-drop, paste-zero}
+use lib.Signed.{mag}
 use Rattle.answer.specs.Answer.{gives, refuse, _>>_, bound, passed}
 use Rattle.layout.specs.Lent.{after}
+use Rattle.text.specs.Decimal.{signed}
 use Rattle.text.specs.DecimalLaws.{ten-digits}
 use Rattle.text.specs.Text.{lineOf, placeOf, roomOf, overlaid, withText, Placed, put-settled}
 use Rattle.text.specs.declared.Put.{Put}
@@ -70,31 +73,44 @@ end-within {p} {xs} {l} {l′} {r} {n} w q =
     let f : place .value + length xs ≡ n = (let g : gives (place .value + length xs) ≡ gives n = place .after in cc) in
     omega (arith, ltb-false (length l) (room .value + length xs) (fits .failed), placed-length w)
 
--- What several pieces come to: they stand there where there is room for all of them; and the bytes are no more and no fewer.
-pub record Joined (l : List ℕ) (at : ℕ) (xs l′ : List ℕ) (r : Put) : Type 0 where
+-- What several pieces come to, from the place p on: they stand there where there is room for all of them; and the bytes are no more and no fewer.
+pub record Joined (p : Put) (xs l l′ : List ℕ) (r : Put) : Type 0 where
   pub size : length l′ ≡ length l
-  pub stands : at + length xs ≤ length l → Stands l at xs l′ r
+  pub stands : (at : ℕ) → p ≡ At at → at + length xs ≤ length l → Stands l at xs l′ r
 
-pub one-piece : {p : Put} {at : ℕ} {xs l l′ : List ℕ} {r : Put} → p ≡ At at → Placed p xs l l′ r → Joined l at xs l′ r
-one-piece {xs = xs} {l = l} q w = record { size = placed-length w; stands = stood q xs l w }
+pub no-piece : {p : Put} {l : List ℕ} → Joined p [] l l p
+no-piece {l = l} = record { size = refl; stands = λ at q h. record { end = q ∙ ap At (sym (add-zero at)); bytes = paste-zero l at [] } }
 
--- one text, and then another from where it ended
-pub then : {l xs l₁ ys l₂ : List ℕ} {at : ℕ} {q r : Put} → Joined l at xs l₁ q → Placed q ys l₁ l₂ r → Joined l at (xs ++ ys) l₂ r
-then {l} {xs} {l₁} {ys} {l₂} {at} {q} {r} a b = record { size = placed-length b ∙ a .size; stands = both }
+pub one-piece : {p : Put} {xs l l′ : List ℕ} {r : Put} → Placed p xs l l′ r → Joined p xs l l′ r
+one-piece {xs = xs} {l = l} w = record { size = placed-length w; stands = λ at q. stood q xs l w }
+
+-- pieces, and then others from where they ended
+pub join : {p : Put} {l xs l₁ ys l₂ : List ℕ} {q r : Put} → Joined p xs l l₁ q → Joined q ys l₁ l₂ r → Joined p (xs ++ ys) l l₂ r
+join {p} {l} {xs} {l₁} {ys} {l₂} {q} {r} a b = record { size = b .size ∙ a .size; stands = both }
   where
-    both : at + length (xs ++ ys) ≤ length l → Stands l at (xs ++ ys) l₂ r
-    both h =
+    both : (at : ℕ) → p ≡ At at → at + length (xs ++ ys) ≤ length l → Stands l at (xs ++ ys) l₂ r
+    both at is-at h =
         let e = length-append xs ys in
         let g : at + length xs ≤ length l = omega arith in
-        let s = a .stands g in
+        let s = a .stands at is-at g in
         let k = a .size in
-        let t = stood (s .end) ys l₁ b (omega arith) in
+        let t = b .stands (at + length xs) (s .end) (omega arith) in
         record {
           end = t .end ∙ ap At (omega arith);
           bytes = t .bytes ∙ ap (λ (o : List ℕ). overlaid o (at + length xs) ys) (s .bytes) ∙ overlaid-twice l xs at g ys;
         }
 
+-- pieces, and then a text
+pub then : {p : Put} {l xs l₁ ys l₂ : List ℕ} {q r : Put} → Joined p xs l l₁ q → Placed q ys l₁ l₂ r → Joined p (xs ++ ys) l l₂ r
+then a b = join a (one-piece b)
+
 -- a number of 32 bits has ten digits at most
 pub line-short : (name : List ℕ) (n : ℕ) → n < 2 ^ 32 → length (lineOf name n) ≤ length name + 12
 unfolding lineOf
 line-short name n h = simp length-append (omega (arith, ten-digits n h))
+
+-- and one with its sign eleven characters
+pub signed-short : (z : ℤ) → mag z < 2 ^ 31 → length (signed z) ≤ 11
+unfolding signed
+signed-short (pos n) h = omega (arith, ten-digits n (omega arith))
+signed-short (negsuc n) h = omega (arith, ten-digits (suc n) (omega arith))

@@ -3,8 +3,9 @@
 ghost use mathlib.Core.Path.{_≡_};
 ghost use Prim.Native.Nat.{_+_, _%_, _≤_};
 ghost use lib.Dec.{ltb};
+ghost use lib.IntN.{natAbs};
 ghost use lib.ListN.{length, drop};
-ghost use Rattle.text.specs.Decimal.{decimal};
+ghost use Rattle.text.specs.Decimal.{decimal, signed};
 ghost use Rattle.text.specs.Text.{lineOf, overlaid, Placed};
 
 // The place where text goes on. `NoRoom` is refusal 32, and what is put there is refused too.
@@ -77,6 +78,38 @@ pub fn put_decimal(out: &mut [u8], place: Put, n: u32) -> Put
     let mut ten = [0u8; 10];
     let first = spell(&mut ten, n);
     put_bytes(out, place, &ten[first..])
+}
+
+// How far a number is from 0.
+fn magnitude(z: i32) -> u32
+    ensures { λ r. ⌜ r ≡ natAbs z ⌝ }
+{
+    let wide = z as i64;
+    if wide < 0 {
+        (0 - wide) as u32
+    } else {
+        wide as u32
+    }
+}
+
+// A number with its sign: a minus where it is negative, and no plus.
+pub fn put_signed(out: &mut [u8], place: Put, z: i32) -> Put
+    ensures { λ r. ⌜ Placed place (signed z) (now (out .entry)) (now (out .exit)) r ⌝ }
+{
+    let n = magnitude(z);
+    if z >= 0 {
+        return put_decimal(out, place, n);
+    }
+    let Put::At(at) = place else {
+        return Put::NoRoom;
+    };
+    let mut ten = [0u8; 10];
+    let first = spell(&mut ten, n);
+    if no_room(out.len(), at, 11 - first) {
+        return Put::NoRoom;
+    }
+    let digits = put_bytes(out, place, b"-");
+    put_bytes(out, digits, &ten[first..])
 }
 
 // A line: a name, a space, a number, a newline.

@@ -30,8 +30,8 @@ returns-3 c =
     let is-at = at-test .before .before .before .before .before .before .place .given .1 in
     let fits = rw size at (sym (at-test .before .no-room .ensures) ∙ at-test .if1 .left) in
     let number = rw (number-part (spell .last .0) (spell .result) (args .n) (spell .ensures .0) (spell .ensures .1)) at (at-number .put-bytes3 .ensures) in
-    let text = then (then (then (one-piece refl (at-name .put-bytes .ensures)) (at-space .put-bytes2 .ensures)) number) (at-newline .put-bytes4 .ensures) in
-    placed is-at (lineOf (args .name .now) (args .n)) (args .out .now) fits (text .stands (ltb-false _ _ fits))
+    let text = then (then (then (one-piece (at-name .put-bytes .ensures)) (at-space .put-bytes2 .ensures)) number) (at-newline .put-bytes4 .ensures) in
+    placed is-at (lineOf (args .name .now) (args .n)) (args .out .now) fits (text .stands _ refl (ltb-false _ _ fits))
 
 pub put-line-spec : {M : Type 1} → statement M
 put-line-spec =
