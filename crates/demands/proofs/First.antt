@@ -38,6 +38,8 @@ use Rattle.v30x.specs.Laws as laws30
 use Rattle.v30x.specs.Order as order30
 use Rattle.h4.specs.H4.{prescaledSays, prescaled-settled, bus-settled}
 use Rattle.h4.specs.Order as order4
+use Rattle.serial.specs.Serial.{serialSays, serial-settled}
+use Rattle.serial.specs.Order.{divisor-in-order, port-in-order}
 use Rattle.report.specs.Order.{report-in-order}
 use Rattle.capi_give.specs.Given.{numberIn, GivenOne}
 use Rattle.demands.specs.First.{Answers, writeOf, Parts, Demand1}
@@ -138,6 +140,8 @@ demand1 = record {
   pclk4 = answers busSays _ (λ n. refl) bus-settled (λ x. order4.pclk-in-order (x .0) (x .1));
   ahb4 = answers rateSays _ (λ n. refl) rate-settled (λ x. order4.ahb-in-order (x .0) (x .1));
   doubled4 = answers replySays _ (λ n. refl) reply-settled order4.doubled-in-order;
+  divisor = answers serialSays _ (λ n. refl) serial-settled (λ x. divisor-in-order (x .0) (x .1));
+  port = answers serialSays _ (λ n. refl) serial-settled (λ x. port-in-order (x .0) (x .1) (x .2));
   reported = report-in-order;
   parts = parts;
   write = λ n m l l′ k w. left l l′ k (written n m l) (w .answer) (w .bytes);

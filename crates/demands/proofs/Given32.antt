@@ -1,4 +1,4 @@
--- The same of V1, L1 and V30x, and all of it together.
+-- The same of V1, L1, V30x, H4 and serial divisors, and all of it together.
 -- Assumes nothing.
 use Prim.Native.Nat.{ℕ}
 use mathlib.Core.Path.{refl}
@@ -9,6 +9,7 @@ use Rattle.divider.specs.declared.Family.the-variants.{H4}
 use Rattle.divider.specs.declared.Frequency.{Frequency}
 use Rattle.divider.specs.Frequency.{whole, over}
 use Rattle.divider.specs.Divide.{ahbOf, apbOf, byAhbOf, byApbOf}
+use Rattle.tree.specs.declared.Clocks.{Clocks}
 use Rattle.tree.specs.declared.HseFrequency.{HseFrequency}
 use Rattle.tree.specs.declared.HseFrequency.the-variants as frequency
 use Rattle.pll32.specs.declared.Hse.{Hse}
@@ -37,6 +38,8 @@ use Rattle.v30x.specs.declared.Fields as in30
 use Rattle.v30x.specs.V30x as v30x
 use Rattle.h4.specs.declared.Prescale.{Prescale}
 use Rattle.h4.specs.H4.{pclkOf, doubledOf, prescaledOf}
+use Rattle.serial.specs.Serial.{nearestOf, divisorOf, portOf}
+use Rattle.serial.specs.Rows.{clocks}
 use Rattle.demands.specs.First.{EachGiven, checkGiven1, checkGiven30, Demand1Exact}
 use Rattle.demands.proofs.Given.{by, by-row, each-behind, checks, starts, decodes, adc-queries, rng-queries}
 use Rattle.demands.proofs.Given.{read-profiles, read-images, write-profiles, write-images}
@@ -154,6 +157,14 @@ doubled-4 : EachGiven doubledOf (28 ∷ [])
 unfolding doubledOf
 doubled-4 = (by 32 refl, tt)
 
+divisors : EachGiven (λ (x : ℕ × ℕ). divisorOf (x .0) (x .1)) (33 ∷ 34 ∷ [])
+unfolding divisorOf nearestOf
+divisors = (by (0, 0) refl, (by (0, 1) refl, tt))
+
+ports : EachGiven (λ (x : Clocks × ℕ × ℕ). portOf (x .0) (x .1) (x .2)) (28 ∷ 33 ∷ 34 ∷ [])
+unfolding clocks portOf divisorOf nearestOf
+ports = (by (clocks, 0, 0) refl, (by (clocks, 1, 0) refl, (by (clocks, 1, 8000000) refl, tt)))
+
 pub demand1-exact : Demand1Exact
 demand1-exact = record {
   check = checks;
@@ -175,4 +186,6 @@ demand1-exact = record {
   pclk4 = pclk-4;
   ahb4 = ahb-4;
   doubled4 = doubled-4;
+  divisor = divisors;
+  port = ports;
 }

@@ -24,6 +24,7 @@ use Rattle.divider.specs.declared.Quotient.the-variants as quotient
 use Rattle.divider.specs.Frequency.{rateSays}
 use Rattle.divider.specs.Divide.{ahbOf, apbOf, byAhbOf, byApbOf, apbQuotientOf, quotientSays}
 use Rattle.layout.specs.Lent.{Wrote, written}
+use Rattle.tree.specs.declared.Clocks.{Clocks}
 use Rattle.tree.specs.declared.Buses.the-variants as buses
 use Rattle.tree.specs.declared.Bus.the-variants as bus
 use Rattle.tree.specs.Tree.{busesSays, busSays, belowOf, clocksOf}
@@ -78,6 +79,9 @@ use Rattle.h4.specs.declared.Prescale.{Prescale}
 use Rattle.h4.specs.declared.Prescaled.the-variants as prescaled4
 use Rattle.h4.specs.H4.{prescaledSays, pclkOf, doubledOf, prescaledOf}
 use Rattle.h4.specs.Order.{pclkTests, prescaledTests}
+use Rattle.serial.specs.declared.Serial.the-variants as serial
+use Rattle.serial.specs.Serial.{serialSays, divisorOf, portOf}
+use Rattle.serial.specs.Order.{divisorTests, portTests}
 use Rattle.report.specs.Report.{reportedOf}
 use Rattle.report.specs.Order.{reportTests}
 use Rattle.capi_give.specs.Given.{Given, GivenOne}
@@ -182,6 +186,9 @@ pub record Demand1 : Type 1 where
   pub pclk4 : Answers busSays bus.Refused (λ (x : Frequency × ℕ). pclkOf (x .0) (x .1)) (λ x. pclkTests (x .1))
   pub ahb4 : Answers rateSays rate.Refused (λ (x : Frequency × ℕ). byAhbOf H4 (x .0) (x .1)) (λ x. wide 16 (x .1))
   pub doubled4 : Answers replySays reply.Refused doubledOf (wide 32)
+  -- serial divisors, of a bus's clock and of a port: document 02, K1
+  pub divisor : Answers serialSays serial.Refused (λ (x : ℕ × ℕ). divisorOf (x .0) (x .1)) (λ x. divisorTests (x .0) (x .1))
+  pub port : Answers serialSays serial.Refused (λ (x : Clocks × ℕ × ℕ). portOf (x .0) (x .1) (x .2)) (λ x. portTests (x .0) (x .1) (x .2))
   -- the report, which refuses by 32 alone
   pub reported : (s l : List ℕ) → bare (reportedOf s l) ≡ firstOf (reportTests s l)
   -- and the calls that these are made of
@@ -240,3 +247,5 @@ pub record Demand1Exact : Type 0 where
   pub pclk4 : EachGiven (λ (x : Frequency × ℕ). pclkOf (x .0) (x .1)) (28 ∷ [])
   pub ahb4 : EachGiven (λ (x : Frequency × ℕ). byAhbOf H4 (x .0) (x .1)) (28 ∷ [])
   pub doubled4 : EachGiven doubledOf (28 ∷ [])
+  pub divisor : EachGiven (λ (x : ℕ × ℕ). divisorOf (x .0) (x .1)) (33 ∷ 34 ∷ [])
+  pub port : EachGiven (λ (x : Clocks × ℕ × ℕ). portOf (x .0) (x .1) (x .2)) (28 ∷ 33 ∷ 34 ∷ [])

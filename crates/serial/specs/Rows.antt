@@ -41,7 +41,7 @@ unfolding found wanted rows divisorOf nearestOf
 rows-hold = refl
 
 -- six clocks that are all different
-pub clocks : Clocks
+unfoldable pub clocks : Clocks
 clocks = record { sysclk = 64000000; hclk = 32000000; pclk1 = 8000000; pclk2 = 4000000; «pclk1_tim» = 16000000; «pclk2_tim» = 2000000 }
 
 -- a bus and a rate, and what the port's divisor is
