@@ -6,7 +6,7 @@ use crate::{paper, rust};
 #[derive(Clone, Copy, Eq, PartialEq)]
 pub enum By {
     Rust,
-    /// Document 01: the Rust has no answer to give, or another one that docs/DIFFERENCES.md lists.
+    /// Document 01 or 02: the Rust has no answer to give, or another one that docs/DIFFERENCES.md lists.
     Paper,
 }
 

@@ -2,7 +2,7 @@
 
 use crate::answer::{answer, By, Excluding};
 use crate::gen::random::Random;
-use crate::gen::{random_query, recorded};
+use crate::gen::{random_query, recorded, serial};
 use crate::powerup;
 use crate::rows;
 use crate::record::{Query, QUERY};
@@ -38,7 +38,7 @@ fn fill(random: &mut Random, queries: &mut Vec<Query>) {
     }
 }
 
-/// First what the Rust answers, then what document 01 alone answers.
+/// First what the Rust answers, then what the documents alone answer.
 fn made(seed: u64) -> Lists {
     let mut lists = Lists {
         stdin: Vec::new(),
@@ -51,6 +51,8 @@ fn made(seed: u64) -> Lists {
     let mut queries: Vec<Query> = rows::queries().collect();
     queries.extend(recorded(&mut random));
     fill(&mut random, &mut queries);
+    // Random serial divisors come last: what is drawn before them stays as it was without them.
+    queries.extend((0..60).map(|_| serial::random(&mut random)));
     for wanted in [By::Rust, By::Paper] {
         for query in &queries {
             let (expected, by) = answer(query, Excluding { listed: true });
@@ -86,7 +88,7 @@ pub fn write(seed: u64, crates: &str) -> Result<bool, String> {
     }
     lists.summary.print();
     println!(
-        "recorded: records 0 to {} from the Rust, {} to {} from document 01",
+        "recorded: records 0 to {} from the Rust, {} to {} from documents 01 and 02",
         lists.rust - 1,
         lists.rust,
         lists.rust + lists.paper - 1
@@ -101,7 +103,7 @@ pub fn check(seed: u64, crates: &str) -> Result<bool, String> {
     for (path, bytes) in files(&lists, crates) {
         let held = std::fs::read(&path).map_err(|error| format!("can't read {}: {}", path, error))?;
         if held != bytes {
-            println!("{} is not what the Rust and document 01 answer", path);
+            println!("{} is not what the Rust and the documents answer", path);
             same = false;
         }
     }

@@ -46,9 +46,11 @@ pub const H4_AHB: u8 = 0x30;
 pub const H4_HCLK: u8 = 0x31;
 pub const H4_PCLK: u8 = 0x32;
 pub const H4_MUL: u8 = 0x33;
+pub const SERIAL: u8 = 0x40;
+pub const PORT: u8 = 0x41;
 
-/// Each kind, its name, and the refusals that document 01 gives it.
-pub const KINDS: [(u8, &str, &[u8]); 29] = [
+/// Each kind, its name, and the refusals that document 01, or 02, gives it.
+pub const KINDS: [(u8, &str, &[u8]); 31] = [
     (
         CHECK,
         "V4x7 check",
@@ -86,6 +88,8 @@ pub const KINDS: [(u8, &str, &[u8]); 29] = [
     (H4_HCLK, "H4 HCLK", &[]),
     (H4_PCLK, "H4 PCLK", &[28]),
     (H4_MUL, "H4 multiplier", &[28]),
+    (SERIAL, "serial divisor", &[33, 34]),
+    (PORT, "serial divisor, a port", &[28, 33, 34]),
 ];
 
 pub fn name_of(kind: u8) -> &'static str {

@@ -45,7 +45,7 @@ impl Summary {
             println!("{}", line);
         }
         println!(
-            "expected answers: {} from the Rust, {} from document 01",
+            "expected answers: {} from the Rust, {} from documents 01 and 02",
             self.by_rust, self.by_paper
         );
     }

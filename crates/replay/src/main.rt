@@ -1,4 +1,5 @@
 // Answers binary query records, one after another, for every public call. oracle/README.md has the records to the byte.
+mod brr;
 mod codec;
 mod families;
 mod power;
@@ -22,6 +23,7 @@ fn answer(q: &[u8; 128]) -> [u8; 64] {
         0x0a => codec::write_image(q),
         0x0b | 0x0c => power::owed(kind, q),
         0x0d | 0x0e | 0x0f | 0x28 => rules::answer(kind, q),
+        0x40 | 0x41 => brr::answer(kind, q),
         _ => families::answer(kind, q),
     }
 }

@@ -9,6 +9,7 @@ pub mod good;
 mod h4;
 pub mod random;
 mod rules;
+pub mod serial;
 pub mod startup;
 mod wide;
 
@@ -18,7 +19,7 @@ use random::Random;
 /// A set of all combinations of something: how many, how many of them the recorded list takes, and each by its place.
 type Set = (usize, usize, fn(usize) -> Query);
 
-const SETS: [Set; 41] = [
+const SETS: [Set; 45] = [
     (check::DIVIDERS, 90, check::dividers),
     (check::MULTIPLIERS, 90, check::multipliers),
     (check::LIMITS, 180, check::limits),
@@ -59,9 +60,14 @@ const SETS: [Set; 41] = [
     (rules::SYSPLLS, rules::SYSPLLS, rules::syspll_inputs),
     (rules::ADC_RATIOS, rules::ADC_RATIOS, rules::adc_ratios),
     (rules::PLL_OUTPUTS, rules::PLL_OUTPUTS, rules::pll_outputs),
+    (serial::LINKS, serial::LINKS, serial::links),
+    (serial::HALVES, serial::HALVES, serial::halves),
+    (serial::ENDS, serial::ENDS, serial::ends),
+    (serial::PORTS, serial::PORTS, serial::ports),
     (fields::SELECTIONS, 400, fields::selections),
 ];
 
+/// A query of document 01's calls.
 pub fn random_query(r: &mut Random) -> Query {
     match r.below(32) {
         0..=9 => check::random(r),
@@ -109,7 +115,11 @@ impl Iterator for Queries {
             self.at = 0;
         }
         if self.set == SETS.len() {
-            return Some(random_query(&mut self.random));
+            // One in 32 is a serial divisor.
+            return Some(match self.left % 32 {
+                0 => serial::random(&mut self.random),
+                _ => random_query(&mut self.random),
+            });
         }
         self.at += 1;
         Some((SETS[self.set].2)(self.at - 1))

@@ -1,11 +1,12 @@
 //! What document 01 decides and the Rust doesn't: refusals that only the port has, the codecs, a startup's single call,
-//! and the listed differences.
+//! and the listed differences; and document 02, of which the Rust has nothing.
 
 pub mod call;
 pub mod codec;
 pub mod codes;
 pub mod layout;
 mod rules;
+pub mod serial;
 
 use crate::record::*;
 use crate::rust::startup;
@@ -20,6 +21,7 @@ pub fn alone(q: &Query) -> Option<Answer> {
         WRITE_PROFILE => Some(codec::write_profile(q)),
         READ_IMAGE => Some(codec::read_image(q)),
         WRITE_IMAGE => Some(codec::write_image(q)),
+        SERIAL | PORT => Some(serial::answer(q)),
         kind if !codes::allowed(q) => Some(refused(kind, 28)),
         _ => None,
     }
