@@ -9,7 +9,7 @@ use std::io::{BufReader, BufWriter, Read, Write};
 use std::process::{Child, ChildStdout, Command, Stdio};
 use std::thread;
 
-fn spawn(program: &str) -> Result<Child, String> {
+pub fn spawn(program: &str) -> Result<Child, String> {
     let mut words = program.split_whitespace();
     let mut command = Command::new(words.next().unwrap_or(""));
     command.args(words).stdin(Stdio::piped()).stdout(Stdio::piped());
@@ -60,7 +60,7 @@ pub fn list(path: &str, program: &str, excluding: Excluding) -> Result<bool, Str
     Ok(same)
 }
 
-fn verdict(same: bool) -> &'static str {
+pub fn verdict(same: bool) -> &'static str {
     if same {
         "no difference"
     } else {
@@ -104,7 +104,7 @@ where
 }
 
 /// Nothing may follow the last answer, and the program must end with status 0.
-fn ended_well(child: &mut Child, pipe: &mut BufReader<ChildStdout>) -> Result<bool, String> {
+pub fn ended_well(child: &mut Child, pipe: &mut BufReader<ChildStdout>) -> Result<bool, String> {
     let mut rest = Vec::new();
     pipe.read_to_end(&mut rest).map_err(|error| error.to_string())?;
     let status = child.wait().map_err(|error| error.to_string())?;

@@ -11,11 +11,12 @@ mod record;
 mod rows;
 mod rust;
 mod summary;
+mod texts;
 
 use std::process::exit;
 
-const USAGE: &str = "usage: oracle compare SEED COUNT PROGRAM | list FILE PROGRAM | query HEX PROGRAM | record SEED CRATES | check SEED CRATES | \
-                     answer | rows\n       --listed after it: listed differences are not left out (the Rust's own answer to one, and the test of the comparison)";
+const USAGE: &str = "usage: oracle compare SEED COUNT PROGRAM | list FILE PROGRAM | query HEX PROGRAM | texts SEED COUNT PROGRAM | \
+                     record SEED CRATES | check SEED CRATES | answer | tell | rows\n       --listed after it: listed differences are not left out (the Rust's own answer to one, and the test of the comparison)";
 
 fn main() {
     panics::note_panics();
@@ -30,9 +31,11 @@ fn main() {
         ["compare", seed, count, program] => compare::run(number(seed), number(count) as usize, program, excluding),
         ["list", path, program] => compare::list(path, program, excluding),
         ["query", query, program] => compare::one(query, program, excluding),
+        ["texts", seed, count, program] => texts::run(number(seed), number(count) as usize, program),
         ["record", seed, dir] => lists::write(number(seed), dir),
         ["check", seed, dir] => lists::check(number(seed), dir),
         ["answer"] => lists::answer_stdin(excluding),
+        ["tell"] => texts::tell_stdin(),
         ["rows"] => rows::run(),
         _ => Err(USAGE.to_string()),
     };

@@ -25,28 +25,33 @@ impl Summary {
 
     pub fn print(&self) {
         for ((_, name, refusals), counts) in KINDS.iter().zip(&self.counts) {
-            let asked: u64 = counts.iter().sum();
-            let mut line = format!("{:<22} {:>7} asked, {:>7} accepted", name, asked, counts[0]);
-            let given: Vec<String> = (1..256)
-                .filter(|number| counts[*number] > 0)
-                .map(|number| format!("{} x{}", number, counts[number]))
-                .collect();
-            if !given.is_empty() {
-                line += &format!("; refused {}", given.join(", "));
-            }
-            let never: Vec<String> = refusals
-                .iter()
-                .filter(|number| counts[**number as usize] == 0)
-                .map(u8::to_string)
-                .collect();
-            if !never.is_empty() {
-                line += &format!("; NEVER {}", never.join(", "));
-            }
-            println!("{}", line);
+            println!("{}", counted(name, counts, refusals));
         }
         println!(
             "expected answers: {} from the Rust, {} from documents 01 and 02",
             self.by_rust, self.by_paper
         );
     }
+}
+
+/// A line of a summary: answers by refusal number, and which of the refusals never came.
+pub fn counted(name: &str, counts: &[u64; 256], refusals: &[u8]) -> String {
+    let asked: u64 = counts.iter().sum();
+    let mut line = format!("{:<22} {:>7} asked, {:>7} accepted", name, asked, counts[0]);
+    let given: Vec<String> = (1..256)
+        .filter(|number| counts[*number] > 0)
+        .map(|number| format!("{} x{}", number, counts[number]))
+        .collect();
+    if !given.is_empty() {
+        line += &format!("; refused {}", given.join(", "));
+    }
+    let never: Vec<String> = refusals
+        .iter()
+        .filter(|number| counts[**number as usize] == 0)
+        .map(u8::to_string)
+        .collect();
+    if !never.is_empty() {
+        line += &format!("; NEVER {}", never.join(", "));
+    }
+    line
 }

@@ -91,9 +91,9 @@ fn random_image(r: &mut Random) -> Query {
     read(READ_IMAGE, length, &image)
 }
 
-/// Good profiles, some with one to three bytes changed, and rubbish.
-fn random_profile(r: &mut Random) -> Query {
-    let mut profile = profile_of(&config::any(r));
+/// A configuration's profile; some with one to three bits turned over, some rubbish.
+pub fn damaged_profile(r: &mut Random, config: &[u8; CONFIG]) -> [u8; 10] {
+    let mut profile = profile_of(config);
     match r.below(6) {
         0 | 1 => {
             for _ in 0..1 + r.below(3) {
@@ -104,6 +104,12 @@ fn random_profile(r: &mut Random) -> Query {
         2 => profile.iter_mut().for_each(|byte| *byte = r.byte()),
         _ => {}
     }
+    profile
+}
+
+fn random_profile(r: &mut Random) -> Query {
+    let config = config::any(r);
+    let profile = damaged_profile(r, &config);
     let length = if r.once_in(8) {
         r.below(LENT as u32 + 1) as usize
     } else {

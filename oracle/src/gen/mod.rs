@@ -7,6 +7,7 @@ pub mod family;
 mod fields;
 pub mod good;
 mod h4;
+pub mod inputs;
 pub mod random;
 mod rules;
 pub mod serial;

@@ -7,6 +7,7 @@ pub mod codes;
 pub mod layout;
 mod rules;
 pub mod serial;
+pub mod text;
 
 use crate::record::*;
 use crate::rust::startup;
