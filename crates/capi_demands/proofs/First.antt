@@ -6,6 +6,7 @@ use mathlib.Core.List.{List, [], _∷_}
 use native.Mathlib.Omega.{arith}
 use borrow.Author.Tests.{le-leb}
 use lib.Dec.{leb, ltb}
+use lib.IntN.{ℤ}
 use lib.ListN.{length, take, drop}
 use Rattle.answer.specs.Answer.{Answer, gives, refuses, refuse, _>>_}
 use Rattle.answer.specs.Order.{Test, firstOf, bare, InOrder, order-gives, order-then, order-bind, order-behind, order-past, else-order}
@@ -26,6 +27,7 @@ use Rattle.decoder.proofs.Order.{decode-in-order, adc-in-order, rng-in-order}
 use Rattle.startup.specs.Call.{keyOf}
 use Rattle.startup.specs.Order.{append-none, owed-goes, calls-goes}
 use Rattle.h4.specs.Order as order4
+use Rattle.serial.specs.Order.{divisorTests, divisor-in-order}
 use Rattle.capi_give.specs.Given.{decoderHse, Given, numberIn}
 use Rattle.demands.specs.First.{wide}
 use Rattle.capi.specs.Calls as capi
@@ -38,7 +40,8 @@ use Rattle.capi_startup.specs.Order as orderStartup
 use Rattle.capi_v1.specs.Order as order1
 use Rattle.capi_v30x.specs.Order as order30
 use Rattle.capi_h4.specs.Order.{clocks-call-in-order, pclk-call-in-order}
-use Rattle.capi_demands.specs.First.{Through, ThroughOne, refusing, placeTests, Demand1InC}
+use Rattle.capi_serial.specs.Calls.{GivenSerial}
+use Rattle.capi_demands.specs.First.{Through, ThroughOne, ThroughTwo, refusing, placeTests, Demand1InC}
 
 -- ---- from an answer to the number returned
 
@@ -56,6 +59,14 @@ through {n} {m} {tests} h l l′ r g =
 
 through-one : {m : Answer ℕ} {tests : List Test} → InOrder tests m → ThroughOne m tests
 through-one {m} h x x′ r g = g .number ∙ number-bare m ∙ ap numberIn (h .goes)
+
+-- a refusal leaves two lent numbers as they were
+left-two : (m : Answer (ℕ × ℤ)) (b b′ : ℕ) (e e′ : ℤ) (r : ℕ) → GivenSerial m b b′ e e′ r → (r ≡ 0 → ⊥) → (b′ ≡ b) × (e′ ≡ e)
+left-two (gives x) b b′ e e′ r g h = absurd (h (g .number))
+left-two (refuses n) b b′ e e′ r g h = (g .brr, g .error)
+
+through-two : {m : Answer (ℕ × ℤ)} {tests : List Test} → InOrder tests m → ThroughTwo m tests
+through-two {m} h b b′ e e′ r g = (g .number ∙ number-bare m ∙ ap numberIn (h .goes), left-two m b b′ e e′ r g)
 
 -- ---- the readers
 
@@ -136,4 +147,5 @@ demand1-in-c = record {
   hclk4 = λ ahb fpre. through-one order-gives;
   pclk4 = λ hclk ppre. returned (λ l. (32, ltb (length l) 2) ∷ order4.pclkTests ppre) (pclk-call-in-order hclk ppre);
   doubled4 = λ position. through-one {tests = wide 32 position} (record { goes = order4.doubled-in-order position });
+  serial = λ pclk rate. through-two {tests = divisorTests pclk rate} (record { goes = divisor-in-order pclk rate });
 }

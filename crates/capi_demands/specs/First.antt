@@ -1,13 +1,14 @@
 -- The user's first demand, of the calls for C and Rust: what each returns is the number of the first test of its list that holds, and 0 where none
 -- does. The lists are those of `Demand1`, put together: 32 where memory with a length is lent, then the tests of what reads the bytes handed in,
--- then those of the call behind it, over what was read. That a refusal leaves what was lent is `Demand1`'s `call` and `call-one`; that two results
--- of a call are equal, `given-settled` and `given-one-settled`.
+-- then those of the call behind it, over what was read. That a refusal leaves what was lent is `Demand1`'s `call` and `call-one`, and of two lent numbers
+-- `ThroughTwo`; that two results of a call are equal, `given-settled`, `given-one-settled` and `given-serial-settled`.
 -- Assumes nothing.
 use Prim.Native.Nat.{ℕ}
 use mathlib.Core.Path.{_≡_}
 use mathlib.Core.Bool.{Bool, true, false, not}
 use mathlib.Core.List.{List, [], _∷_, _++_}
 use lib.Dec.{ltb}
+use lib.IntN.{ℤ}
 use lib.ListN.{length, take, drop}
 use Rattle.answer.specs.Answer.{Answer, gives, refuses}
 use Rattle.answer.specs.Order.{Test, firstOf, behind}
@@ -24,6 +25,8 @@ use Rattle.decoder.specs.Order.{decodeTests, queryTests}
 use Rattle.startup.specs.Order.{owedTests}
 use Rattle.h4.specs.H4.{doubledOf}
 use Rattle.h4.specs.Order as order4
+use Rattle.serial.specs.Serial.{divisorOf}
+use Rattle.serial.specs.Order.{divisorTests}
 use Rattle.capi_give.specs.Given.{decoderHse, Given, GivenOne, numberIn, twoWords, sixWords, sevenWords}
 use Rattle.demands.specs.First.{wide}
 use Rattle.capi.specs.Calls as capi
@@ -38,6 +41,7 @@ use Rattle.capi_v1.specs.Order as order1
 use Rattle.capi_v30x.specs.Calls as v30x
 use Rattle.capi_v30x.specs.Order as order30
 use Rattle.capi_h4.specs.Calls.{clocksAhbOf, busWordsOf, inHertz}
+use Rattle.capi_serial.specs.Calls.{GivenSerial}
 
 -- a call that gives a record m of n words or bytes through lent ones: 32 first
 abbrev pub Through : ℕ → Answer (List ℕ) → List Test → Type 0
@@ -46,6 +50,11 @@ Through n m tests = (l l′ : List ℕ) (r : ℕ) → Given n m l l′ r → r �
 -- one that gives a number through one lent word
 abbrev pub ThroughOne : Answer ℕ → List Test → Type 0
 ThroughOne m tests = (x x′ r : ℕ) → GivenOne m x x′ r → r ≡ numberIn (firstOf tests)
+
+-- one that gives BRR and its error through two lent numbers: with a number returned, both are as they were
+abbrev pub ThroughTwo : Answer (ℕ × ℤ) → List Test → Type 0
+ThroughTwo m tests = (b b′ : ℕ) (e e′ : ℤ) (r : ℕ) → GivenSerial m b b′ e e′ r →
+    (r ≡ numberIn (firstOf tests)) × ((r ≡ 0 → ⊥) → (b′ ≡ b) × (e′ ≡ e))
 
 abbrev pub refusing : {A : Type 0} → Answer A → Bool
 refusing (gives x) = false
@@ -104,3 +113,5 @@ pub record Demand1InC : Type 0 where
   pub hclk4 : (ahb fpre : ℕ) → ThroughOne (gives (over (whole ahb) (fpreDivisor fpre) .hz)) []
   pub pclk4 : (hclk ppre : ℕ) → Through 2 (twoWords (busWordsOf hclk ppre)) (order4.pclkTests ppre)
   pub doubled4 : (position : ℕ) → ThroughOne (doubledOf position) (wide 32 position)
+  -- the serial divisor of a PCLK and a rate
+  pub serial : (pclk rate : ℕ) → ThroughTwo (divisorOf pclk rate) (divisorTests pclk rate)
