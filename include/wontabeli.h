@@ -4,13 +4,13 @@
  * a fixed order. wontabeli_refusal_text(number) is its sentence. One call is different: wontabeli_step returns 0 also where the startup ends by 21,
  * 22 or 23, and byte 27 of its place then says so.
  *
- * What a call gives goes into memory that the caller lends, at its start: frequencies as words of 32 bits, records as bytes. After a refusal
- * nothing that was lent is touched; after a call that is not refused, nothing beyond the record is. A number of several bytes in a record has the
- * most significant byte first. A byte that says yes or no is 1 or 0.
+ * What a call gives goes into memory that the caller lends, at its start: frequencies as words of 32 bits, records as bytes; a serial divisor and its
+ * error as two numbers of their types. After a refusal nothing that was lent is touched; after a call that is not refused, nothing beyond the record is.
+ * A number of several bytes in a record has the most significant byte first. A byte that says yes or no is 1 or 0.
  *
  * A pointer is valid and aligned for its type and its length, and never null, also where its length is 0; lent memory overlaps nothing else that
  * the call is handed. Lengths are tested: one that doesn't fit is refused, and one that is lent for output is tested first (32). Lengths of words
- * count words; an output without a length is one word.
+ * count words; an output without a length is one number.
  *
  * No call keeps a pointer, allocates, or has a state. Calls may run at the same time, in threads or interrupts, each on memory that no other uses
  * meanwhile.
@@ -156,6 +156,13 @@ uint8_t wontabeli_h4_pclk(uint32_t hclk, uint8_t ppre, uint32_t *out, size_t out
 /* The PLL's multiplier at a position of the list, doubled. Positions 0 to 31 are the multipliers 4, 6, 7, 8, 8.5, 9, 9.5, 10, 10.5, 11, 11.5, 12,
  * 12.5, 13, 14, 15, 16, 17, 18, 19, 20, 22, 24, 26, 28, 30, 32, 34, 36, 38, 40, 59. Refused by 28 (above 31). */
 uint8_t wontabeli_h4_multiplier(uint8_t position, uint32_t *out);
+
+/* ---- Serial divisors ---- */
+
+/* BRR of a serial port for a wanted rate, by its bus's clock in Hz (PCLK1 or PCLK2): the nearest whole number to pclk / rate, halves up. And its error,
+ * pclk - rate x BRR: 0 exactly if the rate divides pclk, below 0 where BRR is rounded up. 20,000,000 at 115,200 gives 174 and -44,800.
+ * Refused by 33 (rate 0), then by 34 (BRR outside 16..65,535). */
+uint8_t wontabeli_serial(uint32_t pclk, uint32_t rate, uint16_t *brr, int32_t *error);
 
 #ifdef __cplusplus
 }

@@ -35,6 +35,8 @@
 #define WONTABELI_PROFILE_CODE 30 /* Profile code or filling not allowed. */
 #define WONTABELI_IMAGE_LENGTH_OR_FILLING 31 /* Image not 8 bytes, or filling not zero. */
 #define WONTABELI_OUTPUT_TOO_SHORT 32 /* Lent output shorter than the record. */
+#define WONTABELI_RATE_ZERO 33 /* Serial rate 0. */
+#define WONTABELI_BRR_OUT_OF_RANGE 34 /* Serial divisor BRR outside 16..65,535. */
 
 /* The clocks, by their place in what a check or a decoder gives; MORE is the number after them. */
 #define WONTABELI_SYSCLK 0

@@ -4,7 +4,7 @@
 
 #include <stdint.h>
 
-/* The sentence of a refusal, as docs/REFUSALS.md has it; "Not refused." of 0, and "No refusal has this number." above 32. */
+/* The sentence of a refusal, as docs/REFUSALS.md has it; "Not refused." of 0, and "No refusal has this number." above 34. */
 static inline const char *wontabeli_refusal_text(uint8_t number)
 {
     static const char *const texts[] = {
@@ -41,6 +41,8 @@ static inline const char *wontabeli_refusal_text(uint8_t number)
         "Profile code or filling not allowed.",
         "Image not 8 bytes, or filling not zero.",
         "Lent output shorter than the record.",
+        "Serial rate 0.",
+        "Serial divisor BRR outside 16..65,535.",
     };
     return number < sizeof texts / sizeof *texts ? texts[number] : "No refusal has this number.";
 }

@@ -1,4 +1,4 @@
-/* Every call of include/wontabeli.h, with answers worked by hand from document 01. Writes what is wrong and how many are right; status 1 where one is wrong. */
+/* Every call of include/wontabeli.h, with answers worked by hand from documents 01 and 02. Writes what is wrong and how many are right; status 1 where one is wrong. */
 #include <stdio.h>
 #include <string.h>
 #include "wontabeli.h"
@@ -425,6 +425,34 @@ static void h4(void)
     IS(wontabeli_h4_multiplier(32, out), WONTABELI_CODE_NOT_ALLOWED);
 }
 
+/* 7 and -7 are lent, and a refusal leaves them. */
+static void serial(void)
+{
+    static const struct { uint32_t pclk, rate; uint8_t number; uint16_t brr; int32_t error; } list[] = {
+        /* document 02's own, 173.6; one below a half, 2083.3; a rate that divides PCLK; a half, 20.5 */
+        {20000000, 115200, 0, 174, -44800}, {20000000, 9600, 0, 2083, 3200}, {72000000, 9600, 0, 7500, 0}, {41, 2, 0, 21, -1},
+        /* 16; 15.5, and just below */
+        {16000000, 1000000, 0, 16, 0}, {31000000, 2000000, 0, 16, -1000000}, {30999999, 2000000, WONTABELI_BRR_OUT_OF_RANGE, 7, -7},
+        /* 65,535; just below 65,535.5, and that */
+        {19660500, 300, 0, 65535, 0}, {19660649, 300, 0, 65535, 149}, {19660650, 300, WONTABELI_BRR_OUT_OF_RANGE, 7, -7},
+        /* the highest PCLK: 65,535 x 65,537; 15.5 of the first rate is 4,294,967,292, of the second 4,294,967,307.5 */
+        {4294967295u, 65537, 0, 65535, 0}, {4294967295u, 277094664, 0, 16, -138547329}, {4294967295u, 277094665, WONTABELI_BRR_OUT_OF_RANGE, 7, -7},
+        {4294967295u, 1, WONTABELI_BRR_OUT_OF_RANGE, 7, -7}, {4294967295u, 4294967295u, WONTABELI_BRR_OUT_OF_RANGE, 7, -7},
+        {0, 115200, WONTABELI_BRR_OUT_OF_RANGE, 7, -7},
+        /* 33 comes first: no BRR of PCLK 0 is in range */
+        {20000000, 0, WONTABELI_RATE_ZERO, 7, -7}, {0, 0, WONTABELI_RATE_ZERO, 7, -7}};
+    unsigned n;
+    for (n = 0; n < sizeof list / sizeof *list; n++) {
+        uint16_t brr = 7;
+        int32_t error = -7;
+        IS(wontabeli_serial(list[n].pclk, list[n].rate, &brr, &error), list[n].number);
+        IS(brr, list[n].brr);
+        IS((uint32_t)error, (uint32_t)list[n].error);
+    }
+    IS(WONTABELI_RATE_ZERO, 33);
+    IS(WONTABELI_BRR_OUT_OF_RANGE, 34);
+}
+
 int main(void)
 {
     profiles();
@@ -438,6 +466,7 @@ int main(void)
     v30x();
     v30x_codes();
     h4();
+    serial();
     printf("calls: %d right, %d wrong\n", right, wrong);
     return wrong != 0;
 }

@@ -1,4 +1,4 @@
-//! Every wrapper of bindings/rust, with answers worked by hand from document 01 (those of tests/calls.c). A wrong one panics.
+//! Every wrapper of bindings/rust, with answers worked by hand from documents 01 and 02 (those of tests/calls.c). A wrong one panics.
 use std::num::NonZeroU32;
 use wontabeli::numbers::*;
 use wontabeli::*;
@@ -234,6 +234,20 @@ fn families() {
     assert_eq!(h4::pll_mul_x2(4), Ok(17));
 }
 
+fn serials() {
+    let set = |brr, error| Ok(SerialDivisor { brr, error });
+    assert_eq!(serial(20_000_000, 115_200), set(174, -44_800));
+    assert_eq!(serial(20_000_000, 9_600), set(2_083, 3_200));
+    assert_eq!(serial(72_000_000, 9_600), set(7_500, 0));
+    assert_eq!(serial(31_000_000, 2_000_000), set(16, -1_000_000));
+    assert_eq!(serial(30_999_999, 2_000_000), Err(Refusal::BrrOutOfRange));
+    assert_eq!(serial(4_294_967_295, 65_537), set(65_535, 0));
+    assert_eq!(serial(19_660_650, 300), Err(Refusal::BrrOutOfRange));
+    assert_eq!(serial(0, 0), Err(Refusal::RateZero));
+    assert_eq!((Refusal::RateZero.number(), Refusal::BrrOutOfRange.number()), (33, 34));
+    assert_eq!((Refusal::from_number(34), Refusal::from_number(35)), (Some(Refusal::BrrOutOfRange), None));
+}
+
 fn main() {
     profiles();
     images();
@@ -242,5 +256,6 @@ fn main() {
     differs();
     runs();
     families();
+    serials();
     println!("calls: every wrapper of the Rust crate is right");
 }

@@ -550,7 +550,9 @@ static void sentences(void)
     IS(strcmp(wontabeli_refusal_text(WONTABELI_HSE_OUT_OF_RANGE), "HSE outside 5,000,000..32,000,000."), 0);
     IS(strcmp(wontabeli_refusal_text(WONTABELI_PROFILE_LENGTH), "Profile not 10 bytes."), 0);
     IS(strcmp(wontabeli_refusal_text(WONTABELI_OUTPUT_TOO_SHORT), "Lent output shorter than the record."), 0);
-    IS(strcmp(wontabeli_refusal_text(33), "No refusal has this number."), 0);
+    IS(strcmp(wontabeli_refusal_text(WONTABELI_RATE_ZERO), "Serial rate 0."), 0);
+    IS(strcmp(wontabeli_refusal_text(WONTABELI_BRR_OUT_OF_RANGE), "Serial divisor BRR outside 16..65,535."), 0);
+    IS(strcmp(wontabeli_refusal_text(35), "No refusal has this number."), 0);
     IS(strcmp(wontabeli_refusal_text(255), "No refusal has this number."), 0);
 }
 

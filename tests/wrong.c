@@ -12,6 +12,7 @@ uint8_t __real_wontabeli_v1_decode(uint8_t part, const uint8_t *fields, size_t f
 uint8_t __real_wontabeli_v1_init_fields(uint8_t part, const uint8_t *config, size_t config_len, const uint8_t *earlier, size_t earlier_len,
     uint8_t *out, size_t out_len);
 uint8_t __real_wontabeli_v30x_check(const uint8_t *config, size_t config_len, uint32_t *out, size_t out_len);
+uint8_t __real_wontabeli_serial(uint32_t pclk, uint32_t rate, uint16_t *brr, int32_t *error);
 
 static int mistake(int number)
 {
@@ -94,4 +95,19 @@ uint8_t __wrap_wontabeli_v30x_check(const uint8_t *config, size_t config_len, ui
     if (mistake(14) && c[15] < 2)
         c[15] = !c[15];
     return __real_wontabeli_v30x_check(c, config_len, out, out_len);
+}
+
+uint8_t __wrap_wontabeli_serial(uint32_t pclk, uint32_t rate, uint16_t *brr, int32_t *error)
+{
+    uint8_t number = __real_wontabeli_serial(pclk, rate, brr, error);
+    /* 15: halves down; 16: rate x BRR - PCLK; 17: BRR 0 with a refusal */
+    if (mistake(15) && number == 0 && *error < 0 && (uint32_t)-*error * 2 == rate) {
+        *brr -= 1;
+        *error += (int32_t)rate;
+    }
+    if (mistake(16) && number == 0)
+        *error = -*error;
+    if (mistake(17) && number != 0)
+        *brr = 0;
+    return number;
 }

@@ -91,9 +91,15 @@ int main(void)
     static const char *const names[] = {"sysclk", "hclk", "pclk1", "pclk2", "pclk1_tim", "pclk2_tim", "adc"};
     uint32_t clocks[WONTABELI_CHECK_WORDS];
     uint8_t number = wontabeli_check(profile, sizeof profile, clocks, WONTABELI_CHECK_WORDS);
+    uint16_t brr = 0;
+    int32_t error = 0;
     int i;
     if (number != 0) return refused(number);
     for (i = 0; i < WONTABELI_CHECK_WORDS; i++) printf("%s %lu\n", names[i], (unsigned long)clocks[i]);
+    /* A serial port of the first bus, at 115,200. */
+    number = wontabeli_serial(clocks[WONTABELI_PCLK1], 115200, &brr, &error);
+    if (number != 0) return refused(number);
+    printf("brr %u error %ld\n", brr, (long)error);
     printf("nine bytes: refused %u\n", wontabeli_check(profile, 9, clocks, WONTABELI_CHECK_WORDS));
     return start(1) | start(0);
 }

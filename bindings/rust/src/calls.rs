@@ -44,4 +44,6 @@ extern "C" {
     pub fn wontabeli_h4_hclk(ahb: u32, fpre: u8, out: *mut u32) -> u8;
     pub fn wontabeli_h4_pclk(hclk: u32, ppre: u8, out: *mut u32, out_len: usize) -> u8;
     pub fn wontabeli_h4_multiplier(position: u8, out: *mut u32) -> u8;
+
+    pub fn wontabeli_serial(pclk: u32, rate: u32, brr: *mut u16, error: *mut i32) -> u8;
 }

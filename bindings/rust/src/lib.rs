@@ -1,6 +1,6 @@
 //! Safe types over the proved clock library for CH32 chips. Each call gives what include/wontabeli.h says of it, or a refusal: the first in the order of
 //! docs/REFUSALS.md. Nothing here decides anything: records are laid out and taken apart, and handed on. V4x7 is at the root, the other families in
-//! modules. The archive that is linked is for x86-64 hosts.
+//! modules; `serial` is for the clocks of any. The archive that is linked is for x86-64 hosts.
 #![no_std]
 #![warn(missing_docs)]
 
@@ -18,6 +18,7 @@ mod calls;
 mod codes;
 mod profile;
 mod refusal;
+mod serial;
 mod startup;
 mod usb;
 mod v4x7;
@@ -27,6 +28,7 @@ pub use codes::{
 };
 pub use profile::{read_image, write_image, AdcClockSource, Config, Hse};
 pub use refusal::Refusal;
+pub use serial::{serial, SerialDivisor};
 pub use startup::{call_bound, waits_owed, Chip, FlashKey, KeyRegister, Reading, Report, Startup};
 pub use v4x7::{adc_frequency, check, decode, rng_source_frequency, Checked};
 
@@ -62,7 +64,7 @@ impl Clocks {
     }
 }
 
-// A returned number as a result. The library returns no number above 32; such a one would be a code that is not allowed.
+// A returned number as a result. The library returns no number that is not a refusal's; such a one would be a code that is not allowed.
 fn result(number: u8) -> Result<(), Refusal> {
     match number {
         0 => Ok(()),

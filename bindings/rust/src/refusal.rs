@@ -69,10 +69,14 @@ pub enum Refusal {
     ImageLengthOrFilling = 31,
     /// Lent output shorter than the record.
     OutputTooShort = 32,
+    /// Serial rate 0.
+    RateZero = 33,
+    /// Serial divisor BRR outside 16..65,535.
+    BrrOutOfRange = 34,
 }
 
 impl Refusal {
-    /// The refusal of a number; none of 0 and of a number above 32.
+    /// The refusal of a number; none of 0 and of a number above 34.
     pub fn from_number(number: u8) -> Option<Refusal> {
         Some(match number {
             1 => Refusal::RngWithoutUsbhs,
@@ -107,6 +111,8 @@ impl Refusal {
             30 => Refusal::ProfileCode,
             31 => Refusal::ImageLengthOrFilling,
             32 => Refusal::OutputTooShort,
+            33 => Refusal::RateZero,
+            34 => Refusal::BrrOutOfRange,
             _ => return None,
         })
     }
@@ -151,6 +157,8 @@ impl Refusal {
             Refusal::ProfileCode => "Profile code or filling not allowed.",
             Refusal::ImageLengthOrFilling => "Image not 8 bytes, or filling not zero.",
             Refusal::OutputTooShort => "Lent output shorter than the record.",
+            Refusal::RateZero => "Serial rate 0.",
+            Refusal::BrrOutOfRange => "Serial divisor BRR outside 16..65,535.",
         }
     }
 }

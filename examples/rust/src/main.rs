@@ -62,6 +62,9 @@ fn answers() -> Result<(), Refusal> {
     for (name, hz) in ["sysclk", "hclk", "pclk1", "pclk2", "pclk1_tim", "pclk2_tim", "adc"].iter().zip(numbers) {
         println!("{name} {hz}");
     }
+    // A serial port of the first bus, at 115,200.
+    let port = wontabeli::serial(k.pclk1, 115_200)?;
+    println!("brr {} error {}", port.brr, port.error);
     if let Err(refusal) = check(&profile[..9]) {
         println!("nine bytes: refused {}", refusal.number());
     }
