@@ -1,6 +1,6 @@
 //! What is measured: for each line of the table our side and the Rust's.
 
-use crate::inputs::{Bad, Good, Inputs};
+use crate::inputs::{Bad, Good, Inputs, PORTS};
 use crate::{ours, theirs};
 use std::panic::catch_unwind;
 
@@ -90,6 +90,11 @@ fn decode(input: &Good) {
 fn step(place: &ours::Place, reading: u16) {
     let mut place = *place;
     keep((ours::step(&mut place, reading), place));
+}
+
+fn serial(&(pclk, rate): &(u32, u32)) {
+    let (mut brr, mut error) = (0, 0);
+    keep((ours::serial(pclk, rate, &mut brr, &mut error), brr, error));
 }
 
 fn caught(input: &Bad) {
@@ -229,10 +234,19 @@ fn startups() -> Vec<Case> {
     ]
 }
 
+fn serials() -> Vec<Case> {
+    vec![Case {
+        name: "serial divisor",
+        ours: call("wontabeli_serial", |_| each(&PORTS, serial)),
+        theirs: None,
+    }]
+}
+
 pub fn cases() -> Vec<Case> {
     let mut cases = checks();
     cases.append(&mut decodes());
     cases.append(&mut codecs());
     cases.append(&mut startups());
+    cases.append(&mut serials());
     cases
 }

@@ -59,6 +59,9 @@ pub const REFUSED: [(&str, Profile, u8, &str); 4] = [
     ),
 ];
 
+/// Serial ports: PCLK and the wanted rate. Document 02's own, a rate that divides PCLK, and the highest PCLK with the largest BRR.
+pub const PORTS: [(u32, u32); 3] = [(20_000_000, 115_200), (72_000_000, 9_600), (4_294_967_295, 65_537)];
+
 /// An accepted configuration: as both sides take it, and its registers after the startup.
 pub struct Good {
     pub name: &'static str,

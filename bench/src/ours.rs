@@ -16,6 +16,7 @@ extern "C" {
         place_len: usize,
     ) -> u8;
     fn wontabeli_step(place: *mut u8, place_len: usize, reading: u16) -> u8;
+    fn wontabeli_serial(pclk: u32, rate: u32, brr: *mut u16, error: *mut i32) -> u8;
 }
 
 pub type Checked = [u32; 7];
@@ -90,6 +91,11 @@ pub fn start(profile: &[u8; 10], place: &mut Place) -> u8 {
 #[inline]
 pub fn step(place: &mut Place, reading: u16) -> u8 {
     unsafe { wontabeli_step(place.as_mut_ptr(), place.len(), reading) }
+}
+
+#[inline]
+pub fn serial(pclk: u32, rate: u32, brr: &mut u16, error: &mut i32) -> u8 {
+    unsafe { wontabeli_serial(pclk, rate, brr, error) }
 }
 
 pub fn image(place: &Place) -> [u8; 8] {
