@@ -51,7 +51,7 @@ Through n m tests = (l l′ : List ℕ) (r : ℕ) → Given n m l l′ r → r �
 abbrev pub ThroughOne : Answer ℕ → List Test → Type 0
 ThroughOne m tests = (x x′ r : ℕ) → GivenOne m x x′ r → r ≡ numberIn (firstOf tests)
 
--- one that gives BRR and its error through two lent numbers: with a number returned, both are as they were
+-- one that gives BRR and its error through two lent numbers: with a refusal number returned, both are as they were
 abbrev pub ThroughTwo : Answer (ℕ × ℤ) → List Test → Type 0
 ThroughTwo m tests = (b b′ : ℕ) (e e′ : ℤ) (r : ℕ) → GivenSerial m b b′ e e′ r →
     (r ≡ numberIn (firstOf tests)) × ((r ≡ 0 → ⊥) → (b′ ≡ b) × (e′ ≡ e))

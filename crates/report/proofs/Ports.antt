@@ -1,13 +1,11 @@
 -- The lines of ports, one after another. Assumes nothing.
 use mathlib.Core.Path.{_≡_, refl, sym, ap, _∙_}
 use mathlib.Core.List.{List, [], _∷_, _++_, append-nil, append-assoc}
-use Prim.Native.Nat.{ℕ, zero, suc, _+_, _-_, _*_, _<_, _≤_}
+use Prim.Native.Nat.{ℕ, suc, _+_, _-_, _*_, _<_, _≤_}
 use native.Mathlib.Numerals.{add-one}
 use native.Mathlib.Omega.{arith}
-use lib.IntN.{ℤ}
 use lib.ListN.{length, getD, drop, length-append, length-drop}
 use lib.Seq.{drop-cons}
-use Rattle.answer.specs.Answer.{Answer}
 use Rattle.layout.specs.Layout.{num}
 use Rattle.serial.specs.Serial.{portOf}
 use Rattle.tree.specs.declared.Clocks.{Clocks}

@@ -15,26 +15,33 @@ module _ (p r b : ℕ) (hp : p < 2 ^ 32) (hr : r < 2 ^ 32) (hb : b < 2 ^ 16) whe
   below : r * b < 2 ^ 63
   below = lt-of-le-of-lt (mul-le-mul (le-of-lt hr) (le-of-lt hb)) (omega arith)
 
+  -- rate x BRR, and what PCLK is more than that, as they are read back
+  abbrev reached : ℤ
+  reached = toZ w64 (ofZ w64 (toZ w64 r *ℤ toZ w64 b))
+
+  abbrev left : ℤ
+  left = toZ w64 (ofZ w64 (toZ w64 p -ℤ reached))
+
   product : toZ w64 r *ℤ toZ w64 b ≡ pos (r * b)
   product = ap₂ (λ (x y : ℤ). x *ℤ y) (toZ-pos w64 r (omega arith)) (toZ-pos w64 b (omega arith))
 
   pub product-fits : SFits w64 (toZ w64 r *ℤ toZ w64 b)
   product-fits = rw product (record { sfits = below })
 
-  difference : toZ w64 p -ℤ toZ w64 (ofZ w64 (toZ w64 r *ℤ toZ w64 b)) ≡ errorOf p r b
+  difference : toZ w64 p -ℤ reached ≡ errorOf p r b
   difference = ap₂ (λ (x y : ℤ). x -ℤ y) (toZ-pos w64 p (omega arith)) (toZ-ofZ w64 _ product-fits ∙ product)
 
-  pub difference-fits : SFits w64 (toZ w64 p -ℤ toZ w64 (ofZ w64 (toZ w64 r *ℤ toZ w64 b)))
+  pub difference-fits : SFits w64 (toZ w64 p -ℤ reached)
   difference-fits =
       let k = below in
       subst (λ (z : ℤ). SFits w64 z) (sym difference) (record { sfits = difference-below p (r * b) (2 ^ 63) (omega arith) (omega arith) })
 
-  read : toZ w64 (ofZ w64 (toZ w64 p -ℤ toZ w64 (ofZ w64 (toZ w64 r *ℤ toZ w64 b)))) ≡ errorOf p r b
+  read : left ≡ errorOf p r b
   read = toZ-ofZ w64 _ difference-fits ∙ difference
 
   module _ (h : 0 < r) (e : b ≡ nearestOf p r) where
-    pub error-narrow : SFits w32 (toZ w64 (ofZ w64 (toZ w64 p -ℤ toZ w64 (ofZ w64 (toZ w64 r *ℤ toZ w64 b)))))
+    pub error-narrow : SFits w32 left
     error-narrow = subst (λ (z : ℤ). SFits w32 z) (sym read) (record { sfits = rw e (error-fits p r h hr) })
 
-    pub error-read : toZ w32 (ofZ w32 (toZ w64 (ofZ w64 (toZ w64 p -ℤ toZ w64 (ofZ w64 (toZ w64 r *ℤ toZ w64 b)))))) ≡ errorOf p r b
+    pub error-read : toZ w32 (ofZ w32 left) ≡ errorOf p r b
     error-read = toZ-ofZ w32 _ error-narrow ∙ read

@@ -1,17 +1,19 @@
--- What document 02 says of BRR and its error, over every PCLK and rate.
+-- What document 02 says of BRR and its error, over every PCLK and every rate above 0.
 -- Assumes nothing.
-use mathlib.Core.Path.{_≡_, refl, sym, ap, _∙_}
-use mathlib.Core.Bool.{Bool, true, false, cond}
+use mathlib.Core.Path.{_≡_, refl, sym, ap, subst, _∙_}
+use mathlib.Core.Bool.{Bool, true, false, cond, _||_}
 use mathlib.Core.Logic.{_↔_}
 use Prim.Native.Nat.{ℕ, zero, suc, _∣_, _+_, _-_, _*_, _/_, _^_, _<_, _≤_}
 use native.Mathlib.Nat.{mul-le-mul, le-refl, le-antisymm, mul-suc, mul-div-le, lt-mul-div-succ, mul-add, mul-one, mul-assoc, dvd-mul-right, div-mul-cancel, mul-comm}
 use native.Mathlib.Omega.{arith}
 use borrow.Author.Tests.{ltb-true, ltb-false}
-use lib.Dec.{ltb}
-use lib.IntN.{ℤ, pos, negsuc, _-ℤ_, +ℤ-invr}
+use lib.Dec.{ltb, eqb}
+use lib.IntN.{ℤ, pos, negsuc, _+ℤ_, _-ℤ_, +ℤ-invr, -ℤ-+ℤ-cancel}
 use lib.Signed.{mag}
+use Rattle.answer.specs.Answer.{Answer, gives, refuse, _>>_, passed, same-given}
 use Rattle.answer.specs.Tools.{cases}
-use Rattle.serial.specs.Serial.{nearestOf, errorOf}
+use Rattle.serial.specs.Serial.{nearestOf, errorOf, divisorOf}
+use Rattle.serial.specs.Order.{positive}
 
 -- how far two numbers are apart
 abbrev pub apart : ℕ → ℕ → ℕ
@@ -90,6 +92,27 @@ zero-error p r h = (
   (λ z. rw (difference-zero p (r * nearestOf p r) z) (dvd-mul-right r (nearestOf p r))),
   (λ d. ap (λ (m : ℕ). pos p -ℤ pos m) (exact p r h d) ∙ +ℤ-invr (pos p)),
 )
+
+-- So of a divisor that is given: BRR is the nearest, its error is what rate x BRR lacks to PCLK, and is 0 exactly if the rate divides PCLK.
+pub record Sets (p r brr : ℕ) (error : ℤ) : Type 0 where
+  pub is-nearest : Nearest p r brr
+  pub reaches : error +ℤ pos (r * brr) ≡ pos p
+  pub zero-exactly : (error ≡ pos 0) ↔ (r ∣ p)
+
+pub given : (p r : ℕ) {brr : ℕ} {error : ℤ} → divisorOf p r ≡ gives (brr, error) → Sets p r brr error
+unfolding divisorOf
+given p r e =
+    let n : ℕ = nearestOf p r in
+    let answer : Answer (ℕ × ℤ) = gives (n, errorOf p r n) in
+    let outside = ltb n 16 || ltb 65535 n in
+    let rate = passed 33 (eqb r 0) (_>>_ (refuse 34 outside) answer) e in
+    let range = passed 34 outside answer (rate .after) in
+    let h = positive r (rate .failed) in
+    subst (λ (x : ℕ × ℤ). Sets p r (x .0) (x .1)) (same-given (range .after)) (record {
+      is-nearest = nearest p r h;
+      reaches = -ℤ-+ℤ-cancel (pos p) (pos (r * nearestOf p r));
+      zero-exactly = zero-error p r h;
+    })
 
 -- an error has room in 32 bits with their sign: it is at most half of the rate
 

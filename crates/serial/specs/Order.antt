@@ -9,7 +9,7 @@ use native.Mathlib.Omega.{arith}
 use borrow.Author.Tests.{ltb-true, ltb-false, lt-ltb, le-ltb, le-leb, lt-leb, eqb-false}
 use lib.Dec.{ltb, leb, eqb}
 use lib.IntN.{ℤ}
-use Rattle.answer.specs.Answer.{Answer, gives, refuses, refuse, _>>=_, _>>_}
+use Rattle.answer.specs.Answer.{gives, refuses, refuse, _>>=_, _>>_}
 use Rattle.answer.specs.Order.{Test, firstOf, bare, InOrder, order-gives, order-past}
 use Rattle.answer.specs.Lists.{order-either}
 use Rattle.answer.specs.Tools.{cases}
@@ -28,13 +28,13 @@ pclkAt k bus = cond (eqb bus 1) (k .pclk1) (k .pclk2)
 abbrev pub portTests : Clocks → ℕ → ℕ → List Test
 portTests k bus r = (28, not (eqb bus 1) && not (eqb bus 2)) ∷ divisorTests (pclkAt k bus) r
 
-positive : (r : ℕ) → eqb r 0 ≡ false → 0 < r
+pub positive : (r : ℕ) → eqb r 0 ≡ false → 0 < r
 positive r e = let k = eqb-false r 0 e in omega arith
 
 double : {r : ℕ} → 0 < r → 0 < 2 * r
 double h = omega arith
 
--- BRR at or above 16, and at or below 65,535, said of the quotient
+-- BRR below 16, and above 65,535, said of the quotient
 module _ (p r : ℕ) (h : 0 < r) where
   below-16 : ltb (nearestOf p r) 16 ≡ ltb (2 * p) (31 * r)
   unfolding nearestOf

@@ -1,4 +1,4 @@
-// Serial divisors for the gateway product: from a bus's clock and a wanted rate, BRR and the error that is left.
+// Serial divisors: from a bus's clock and a wanted rate, BRR and the error that is left.
 ghost use mathlib.Core.Path.{_≡_};
 ghost use Prim.Native.Nat.{_<_};
 ghost use Rattle.serial.specs.Serial.{nearestOf, errorOf, serialSays, divisorOf, portOf};

@@ -1,7 +1,7 @@
 -- Numbers in decimal, worked by hand. `negsuc n` is -(n + 1).
 -- Assumes nothing.
 use mathlib.Core.Path.{_≡_, refl}
-use mathlib.Core.List.{List, [], _∷_, map}
+use mathlib.Core.List.{[], _∷_, map}
 use lib.IntN.{pos, negsuc}
 use Rattle.text.specs.Decimal.{digits, decimal, signed}
 use Rattle.text.specs.Text.{ascii}

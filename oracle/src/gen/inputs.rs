@@ -20,8 +20,8 @@ fn input(profile: [u8; PROFILE], ports: &[(u8, u32)]) -> Input {
     bytes
 }
 
-/// The request's own row, then a port of each refusal.
-const ROW: [(u8, u32); 4] = [(1, 115_200), (3, 115_200), (2, 0), (1, 4_000_000)];
+/// The request's own row, then a port of each refusal; the last is the first but for its rate's first byte.
+const ROW: [(u8, u32); 4] = [(1, 115_200), (3, 115_200), (2, 0), (1, 0x0101_c200)];
 
 /// A profile that is accepted, one that is refused by 4, and one that doesn't read (30): each at every length that a length byte holds up to 64.
 const LENGTHS: usize = 3 * 65;

@@ -4,18 +4,23 @@ use mathlib.Core.List.{List}
 use Prim.Native.Nat.{ℕ, _-_, _≤_}
 use native.Mathlib.Omega.{arith}
 use borrow.Author.Needs.{needs}
+use borrow.Author.Tests.{not-true}
 use lib.ListN.{length, take, drop, length-drop}
 use lib.Seq.{length-take-le, take-all}
 use Rattle.text.specs.Text.{ascii}
 use Rattle.text.specs.Pieces.{one-piece, line-short}
-use Rattle.report.proofs.Showing.{other-length, its-profile, has-profile, few-ports}
+use Rattle.report.specs.Report.{sized}
+use Rattle.report.specs.Laws.{other-length}
+use Rattle.report.proofs.Showing.{its-profile, has-profile, few-ports}
 use Rattle.report.proofs.put_text.Statement.{statement}
 use Rattle.report.proofs.put_text.Tie as tie
 
 returns : tie.Need-returns
 returns c =
     let short = line-short (ascii "refused") 29 (search needs) in
-    rw (other-length (c .before .before .before .before .before .before .before .before .before .args .input .now) (sym (c .before .before .before .before .before .before .not-sized .ensures) ∙ c .before .before .before .before .before .if1 .taken))
+    let at-test = c .before .before .before .before .before in
+    let s = at-test .before .before .before .before .args .input .now in
+    rw (other-length s (not-true (sized (length s)) (sym (at-test .before .not-sized .ensures) ∙ at-test .if1 .taken)))
     (one-piece (c .before .before .put-line .ensures), omega arith)
 
 -- an input that has its length holds a profile

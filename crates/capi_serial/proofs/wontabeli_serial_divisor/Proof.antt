@@ -2,8 +2,8 @@ use mathlib.Core.Path.{refl}
 use borrow.Author.Needs.{needs}
 use Rattle.answer.specs.Answer.{told}
 use Rattle.serial.specs.Serial.{serialSays}
-use Rattle.capi_serial.proofs.wontabeli_serial.Statement.{statement}
-use Rattle.capi_serial.proofs.wontabeli_serial.Tie as tie
+use Rattle.capi_serial.proofs.wontabeli_serial_divisor.Statement.{statement}
+use Rattle.capi_serial.proofs.wontabeli_serial_divisor.Tie as tie
 
 returns : tie.Need-returns
 returns c =
@@ -15,5 +15,5 @@ returns-2 c =
     rw (told serialSays (c .before .before .before .divisor .ensures) (c .before .nearest .given .1))
     (record { number = refl; brr = refl; error = search needs })
 
-pub wontabeli-serial-spec : {M : Type 1} → statement M
-wontabeli-serial-spec = tie.close (tie.spec (search needs) (search needs) (search needs) returns returns-2)
+pub wontabeli-serial-divisor-spec : {M : Type 1} → statement M
+wontabeli-serial-divisor-spec = tie.close (tie.spec (search needs) (search needs) (search needs) returns returns-2)
