@@ -159,10 +159,10 @@ uint8_t wontabeli_h4_multiplier(uint8_t position, uint32_t *out);
 
 /* ---- Serial divisors ---- */
 
-/* BRR of a serial port for a wanted rate, by its bus's clock in Hz (PCLK1 or PCLK2): the nearest whole number to pclk / rate, halves up. And its error,
- * pclk - rate x BRR: 0 exactly if the rate divides pclk, below 0 where BRR is rounded up. 20,000,000 at 115,200 gives 174 and -44,800.
+/* BRR of a serial port for a wanted rate in baud, by its bus's clock in Hz (PCLK1 or PCLK2): the nearest whole number to pclk / rate, halves up. And its
+ * error, pclk - rate x BRR: 0 exactly if the rate divides pclk, below 0 where BRR is rounded up. 20,000,000 at 115,200 gives 174 and -44,800.
  * Refused by 33 (rate 0), then by 34 (BRR outside 16..65,535). */
-uint8_t wontabeli_serial(uint32_t pclk, uint32_t rate, uint16_t *brr, int32_t *error);
+uint8_t wontabeli_serial_divisor(uint32_t pclk, uint32_t rate, uint16_t *brr, int32_t *error);
 
 #ifdef __cplusplus
 }

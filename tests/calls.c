@@ -435,7 +435,7 @@ static void serial(void)
         {16000000, 1000000, 0, 16, 0}, {31000000, 2000000, 0, 16, -1000000}, {30999999, 2000000, WONTABELI_BRR_OUT_OF_RANGE, 7, -7},
         /* 65,535; just below 65,535.5, and that */
         {19660500, 300, 0, 65535, 0}, {19660649, 300, 0, 65535, 149}, {19660650, 300, WONTABELI_BRR_OUT_OF_RANGE, 7, -7},
-        /* the highest PCLK: 65,535 x 65,537; 15.5 of the first rate is 4,294,967,292, of the second 4,294,967,307.5 */
+        /* the highest PCLK: 65,535 x 65,537; 15.5 x 277,094,664 is 4,294,967,292, and 15.5 x 277,094,665 is 4,294,967,307.5 */
         {4294967295u, 65537, 0, 65535, 0}, {4294967295u, 277094664, 0, 16, -138547329}, {4294967295u, 277094665, WONTABELI_BRR_OUT_OF_RANGE, 7, -7},
         {4294967295u, 1, WONTABELI_BRR_OUT_OF_RANGE, 7, -7}, {4294967295u, 4294967295u, WONTABELI_BRR_OUT_OF_RANGE, 7, -7},
         {0, 115200, WONTABELI_BRR_OUT_OF_RANGE, 7, -7},
@@ -445,7 +445,7 @@ static void serial(void)
     for (n = 0; n < sizeof list / sizeof *list; n++) {
         uint16_t brr = 7;
         int32_t error = -7;
-        IS(wontabeli_serial(list[n].pclk, list[n].rate, &brr, &error), list[n].number);
+        IS(wontabeli_serial_divisor(list[n].pclk, list[n].rate, &brr, &error), list[n].number);
         IS(brr, list[n].brr);
         IS((uint32_t)error, (uint32_t)list[n].error);
     }

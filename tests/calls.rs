@@ -236,14 +236,14 @@ fn families() {
 
 fn serials() {
     let set = |brr, error| Ok(SerialDivisor { brr, error });
-    assert_eq!(serial(20_000_000, 115_200), set(174, -44_800));
-    assert_eq!(serial(20_000_000, 9_600), set(2_083, 3_200));
-    assert_eq!(serial(72_000_000, 9_600), set(7_500, 0));
-    assert_eq!(serial(31_000_000, 2_000_000), set(16, -1_000_000));
-    assert_eq!(serial(30_999_999, 2_000_000), Err(Refusal::BrrOutOfRange));
-    assert_eq!(serial(4_294_967_295, 65_537), set(65_535, 0));
-    assert_eq!(serial(19_660_650, 300), Err(Refusal::BrrOutOfRange));
-    assert_eq!(serial(0, 0), Err(Refusal::RateZero));
+    assert_eq!(serial_divisor(20_000_000, 115_200), set(174, -44_800));
+    assert_eq!(serial_divisor(20_000_000, 9_600), set(2_083, 3_200));
+    assert_eq!(serial_divisor(72_000_000, 9_600), set(7_500, 0));
+    assert_eq!(serial_divisor(31_000_000, 2_000_000), set(16, -1_000_000));
+    assert_eq!(serial_divisor(30_999_999, 2_000_000), Err(Refusal::BrrOutOfRange));
+    assert_eq!(serial_divisor(4_294_967_295, 65_537), set(65_535, 0));
+    assert_eq!(serial_divisor(19_660_650, 300), Err(Refusal::BrrOutOfRange));
+    assert_eq!(serial_divisor(0, 0), Err(Refusal::RateZero));
     assert_eq!((Refusal::RateZero.number(), Refusal::BrrOutOfRange.number()), (33, 34));
     assert_eq!((Refusal::from_number(34), Refusal::from_number(35)), (Some(Refusal::BrrOutOfRange), None));
 }

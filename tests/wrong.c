@@ -12,7 +12,7 @@ uint8_t __real_wontabeli_v1_decode(uint8_t part, const uint8_t *fields, size_t f
 uint8_t __real_wontabeli_v1_init_fields(uint8_t part, const uint8_t *config, size_t config_len, const uint8_t *earlier, size_t earlier_len,
     uint8_t *out, size_t out_len);
 uint8_t __real_wontabeli_v30x_check(const uint8_t *config, size_t config_len, uint32_t *out, size_t out_len);
-uint8_t __real_wontabeli_serial(uint32_t pclk, uint32_t rate, uint16_t *brr, int32_t *error);
+uint8_t __real_wontabeli_serial_divisor(uint32_t pclk, uint32_t rate, uint16_t *brr, int32_t *error);
 
 static int mistake(int number)
 {
@@ -97,9 +97,9 @@ uint8_t __wrap_wontabeli_v30x_check(const uint8_t *config, size_t config_len, ui
     return __real_wontabeli_v30x_check(c, config_len, out, out_len);
 }
 
-uint8_t __wrap_wontabeli_serial(uint32_t pclk, uint32_t rate, uint16_t *brr, int32_t *error)
+uint8_t __wrap_wontabeli_serial_divisor(uint32_t pclk, uint32_t rate, uint16_t *brr, int32_t *error)
 {
-    uint8_t number = __real_wontabeli_serial(pclk, rate, brr, error);
+    uint8_t number = __real_wontabeli_serial_divisor(pclk, rate, brr, error);
     /* 15: halves down; 16: rate x BRR - PCLK; 17: BRR 0 with a refusal */
     if (mistake(15) && number == 0 && *error < 0 && (uint32_t)-*error * 2 == rate) {
         *brr -= 1;

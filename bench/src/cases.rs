@@ -1,6 +1,6 @@
 //! What is measured: for each line of the table our side and the Rust's.
 
-use crate::inputs::{Bad, Good, Inputs, PORTS};
+use crate::inputs::{Bad, Good, Inputs, Port, PORTS};
 use crate::{ours, theirs};
 use std::panic::catch_unwind;
 
@@ -92,9 +92,8 @@ fn step(place: &ours::Place, reading: u16) {
     keep((ours::step(&mut place, reading), place));
 }
 
-fn serial(&(pclk, rate): &(u32, u32)) {
-    let (mut brr, mut error) = (0, 0);
-    keep((ours::serial(pclk, rate, &mut brr, &mut error), brr, error));
+fn serial(port: &Port) {
+    keep(ours::serial(port.pclk, port.rate));
 }
 
 fn caught(input: &Bad) {
@@ -237,7 +236,7 @@ fn startups() -> Vec<Case> {
 fn serials() -> Vec<Case> {
     vec![Case {
         name: "serial divisor",
-        ours: call("wontabeli_serial", |_| each(&PORTS, serial)),
+        ours: call("wontabeli_serial_divisor", |_| each(&PORTS, serial)),
         theirs: None,
     }]
 }

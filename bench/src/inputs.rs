@@ -59,8 +59,23 @@ pub const REFUSED: [(&str, Profile, u8, &str); 4] = [
     ),
 ];
 
-/// Serial ports: PCLK and the wanted rate. Document 02's own, a rate that divides PCLK, and the highest PCLK with the largest BRR.
-pub const PORTS: [(u32, u32); 3] = [(20_000_000, 115_200), (72_000_000, 9_600), (4_294_967_295, 65_537)];
+/// A serial port: PCLK and the wanted rate, and the BRR and the error that they give, worked by hand.
+pub struct Port {
+    pub pclk: u32,
+    pub rate: u32,
+    pub set: (u16, i32),
+}
+
+const fn port(pclk: u32, rate: u32, set: (u16, i32)) -> Port {
+    Port { pclk, rate, set }
+}
+
+/// Document 02's own, a rate that divides PCLK, and the highest PCLK with the largest BRR.
+pub const PORTS: [Port; 3] = [
+    port(20_000_000, 115_200, (174, -44_800)),
+    port(72_000_000, 9_600, (7_500, 0)),
+    port(4_294_967_295, 65_537, (65_535, 0)),
+];
 
 /// An accepted configuration: as both sides take it, and its registers after the startup.
 pub struct Good {

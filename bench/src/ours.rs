@@ -16,7 +16,7 @@ extern "C" {
         place_len: usize,
     ) -> u8;
     fn wontabeli_step(place: *mut u8, place_len: usize, reading: u16) -> u8;
-    fn wontabeli_serial(pclk: u32, rate: u32, brr: *mut u16, error: *mut i32) -> u8;
+    fn wontabeli_serial_divisor(pclk: u32, rate: u32, brr: *mut u16, error: *mut i32) -> u8;
 }
 
 pub type Checked = [u32; 7];
@@ -94,8 +94,9 @@ pub fn step(place: &mut Place, reading: u16) -> u8 {
 }
 
 #[inline]
-pub fn serial(pclk: u32, rate: u32, brr: &mut u16, error: &mut i32) -> u8 {
-    unsafe { wontabeli_serial(pclk, rate, brr, error) }
+pub fn serial(pclk: u32, rate: u32) -> (u8, u16, i32) {
+    let (mut brr, mut error) = (0, 0);
+    (unsafe { wontabeli_serial_divisor(pclk, rate, &mut brr, &mut error) }, brr, error)
 }
 
 pub fn image(place: &Place) -> [u8; 8] {

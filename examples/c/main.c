@@ -1,4 +1,4 @@
-/* A host in C: checks a profile, then starts a simulated chip with it, once with a good crystal and once with one that never swings. */
+/* A host in C: checks a profile, asks for a serial divisor, then starts a simulated chip, once with a good crystal and once with one that never swings. */
 #include <stdio.h>
 #include <string.h>
 #include "wontabeli.h"
@@ -97,7 +97,7 @@ int main(void)
     if (number != 0) return refused(number);
     for (i = 0; i < WONTABELI_CHECK_WORDS; i++) printf("%s %lu\n", names[i], (unsigned long)clocks[i]);
     /* A serial port of the first bus, at 115,200. */
-    number = wontabeli_serial(clocks[WONTABELI_PCLK1], 115200, &brr, &error);
+    number = wontabeli_serial_divisor(clocks[WONTABELI_PCLK1], 115200, &brr, &error);
     if (number != 0) return refused(number);
     printf("brr %u error %ld\n", brr, (long)error);
     printf("nine bytes: refused %u\n", wontabeli_check(profile, 9, clocks, WONTABELI_CHECK_WORDS));

@@ -45,5 +45,5 @@ extern "C" {
     pub fn wontabeli_h4_pclk(hclk: u32, ppre: u8, out: *mut u32, out_len: usize) -> u8;
     pub fn wontabeli_h4_multiplier(position: u8, out: *mut u32) -> u8;
 
-    pub fn wontabeli_serial(pclk: u32, rate: u32, brr: *mut u16, error: *mut i32) -> u8;
+    pub fn wontabeli_serial_divisor(pclk: u32, rate: u32, brr: *mut u16, error: *mut i32) -> u8;
 }

@@ -1,4 +1,4 @@
-use crate::calls::wontabeli_serial;
+use crate::calls::wontabeli_serial_divisor;
 use crate::{result, Refusal};
 
 /// What a serial port is set to for a wanted rate.
@@ -10,16 +10,16 @@ pub struct SerialDivisor {
     pub error: i32,
 }
 
-/// The divisor of a serial port for a wanted rate, by its bus's clock in Hz, `pclk1` or `pclk2` of `Clocks`. Refused by `RateZero`, then by
+/// The divisor of a serial port for a wanted rate in baud, by its bus's clock in Hz, `pclk1` or `pclk2` of `Clocks`. Refused by `RateZero`, then by
 /// `BrrOutOfRange`.
 ///
 /// ```
-/// let set = wontabeli::serial(20_000_000, 115_200)?;
+/// let set = wontabeli::serial_divisor(20_000_000, 115_200)?;
 /// assert_eq!((set.brr, set.error), (174, -44_800));
 /// # Ok::<(), wontabeli::Refusal>(())
 /// ```
-pub fn serial(pclk: u32, rate: u32) -> Result<SerialDivisor, Refusal> {
+pub fn serial_divisor(pclk: u32, rate: u32) -> Result<SerialDivisor, Refusal> {
     let (mut brr, mut error) = (0, 0);
-    result(unsafe { wontabeli_serial(pclk, rate, &mut brr, &mut error) })?;
+    result(unsafe { wontabeli_serial_divisor(pclk, rate, &mut brr, &mut error) })?;
     Ok(SerialDivisor { brr, error })
 }

@@ -1,4 +1,4 @@
-//! A host in Rust: checks a profile, then starts a simulated chip with it, once with a good crystal and once with one that never swings.
+//! A host in Rust: checks a profile, asks for a serial divisor, then starts a simulated chip, once with a good crystal and once with one that never swings.
 use wontabeli::numbers::*;
 use wontabeli::{call_bound, check, read_image, Chip, Config, FlashKey, Hse, PllMul, PllSource, Reading, Refusal, Report, Startup, Sysclk};
 
@@ -63,7 +63,7 @@ fn answers() -> Result<(), Refusal> {
         println!("{name} {hz}");
     }
     // A serial port of the first bus, at 115,200.
-    let port = wontabeli::serial(k.pclk1, 115_200)?;
+    let port = wontabeli::serial_divisor(k.pclk1, 115_200)?;
     println!("brr {} error {}", port.brr, port.error);
     if let Err(refusal) = check(&profile[..9]) {
         println!("nine bytes: refused {}", refusal.number());
