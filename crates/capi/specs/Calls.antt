@@ -5,18 +5,10 @@ use mathlib.Core.List.{List}
 use Rattle.answer.specs.Answer.{Answer, gives, _>>=_}
 use Rattle.tree.specs.declared.Clocks.{Clocks}
 use Rattle.v4x7.specs.declared.ClockRecord.{ClockRecord}
-use Rattle.v4x7.specs.Check.{checkOf}
-use Rattle.profile.specs.Profile.{readProfile}
 use Rattle.image.specs.Image.{readImage}
 use Rattle.decoder.specs.Decode.{decodeOf}
 use Rattle.decoder.specs.Queries.{Ready, hertz, notReady, adcQueryOf, rngQueryOf}
 use Rattle.capi_give.specs.Given.{decoderHse}
-
--- a profile's check: 29, 30, then the check's refusals
-unfoldable pub checkRead : List ℕ → Answer ClockRecord
-checkRead p = do
-  c ← readProfile p
-  checkOf c
 
 -- what a check gives, seven words: the six clocks and the ADC's frequency
 abbrev pub sevenOf : Answer ClockRecord → Answer (Clocks × ℕ)

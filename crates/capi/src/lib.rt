@@ -6,7 +6,8 @@ ghost use Rattle.answer.specs.Said.{replySays};
 ghost use Rattle.capi_give.specs.Given.{Given, GivenOne, sixWords, sevenWords, sevenfoldSays, twoWords, twofoldSays};
 ghost use Rattle.tree.specs.Tree.{busesSays};
 ghost use Rattle.decoder.specs.Queries.{querySays};
-ghost use Rattle.capi.specs.Calls.{checkRead, sevenOf, decodeRead, pairOf, adcRead, rngRead};
+ghost use Rattle.profile.specs.Profile.{checkProfile};
+ghost use Rattle.capi.specs.Calls.{sevenOf, decodeRead, pairOf, adcRead, rngRead};
 ghost use Rattle.capi.specs.Owed.{keyRead, waitsRead, callsRead};
 use answer::Reply;
 use capi_give::Sevenfold;
@@ -25,27 +26,22 @@ pub const KEYR: u32 = 0;
 pub const MODEKEYR: u32 = 1;
 
 fn check(from: &[u8]) -> Sevenfold
-    ensures { λ r. ⌜ sevenfoldSays r ≡ sevenOf (checkRead (now (from .entry))) ⌝ }
+    ensures { λ r. ⌜ sevenfoldSays r ≡ sevenOf (checkProfile (now (from .entry))) ⌝ }
 {
-    match profile::read_profile(from) {
-        ReadProfile::Refused(n) => Sevenfold::Refused(n),
-        ReadProfile::Profile(config) => {
-            let checked = config.clocks();
-            let Checked::Accepted(accepted) = checked else {
-                return Sevenfold::Refused(refused(checked));
-            };
-            let clocks = accepted.clocks;
-            let more = accepted.adc;
-            Sevenfold::Are { clocks, more }
-        }
-    }
+    let checked = profile::check_profile(from);
+    let Checked::Accepted(accepted) = checked else {
+        return Sevenfold::Refused(refused(checked));
+    };
+    let clocks = accepted.clocks;
+    let more = accepted.adc;
+    Sevenfold::Are { clocks, more }
 }
 
 // Checks a profile of ten bytes. Gives seven words: SYSCLK, HCLK, PCLK1, PCLK2, their timers' clocks, and the ADC's frequency.
 // Refused by 32, 29, 30, then by the check's 1 to 16.
 #[no_mangle]
 pub extern "C" fn wontabeli_check(from: &[u8], out: &mut [u32]) -> u8
-    ensures { λ r. ⌜ Given 7 (sevenWords (sevenOf (checkRead (now (from .entry))))) (now (out .entry)) (now (out .exit)) r ⌝ }
+    ensures { λ r. ⌜ Given 7 (sevenWords (sevenOf (checkProfile (now (from .entry))))) (now (out .entry)) (now (out .exit)) r ⌝ }
 {
     capi_give::give_seven(check(from), out)
 }

@@ -2,14 +2,14 @@
 use Prim.Native.Nat.{ℕ, zero, suc}
 use mathlib.Core.Path.{_≡_, _∙_, refl, ap}
 use mathlib.Core.Bool.{Bool, true, false, not}
-use mathlib.Core.List.{List, [], _∷_}
+use mathlib.Core.List.{List, [], _∷_, _++_}
 use native.Mathlib.Omega.{arith}
 use borrow.Author.Tests.{le-leb}
 use lib.Dec.{leb, ltb}
 use lib.IntN.{ℤ}
 use lib.ListN.{length, take, drop}
 use Rattle.answer.specs.Answer.{Answer, gives, refuses, refuse, _>>_}
-use Rattle.answer.specs.Order.{Test, firstOf, bare, InOrder, order-gives, order-then, order-bind, order-behind, order-past, else-order}
+use Rattle.answer.specs.Order.{Test, firstOf, bare, behind, InOrder, order-gives, order-then, order-bind, order-behind, order-past, else-order}
 use Rattle.answer.specs.Lists.{order-map}
 use Rattle.divider.specs.declared.Family.the-variants.{H4}
 use Rattle.divider.specs.Frequency.{whole}
@@ -18,6 +18,7 @@ use Rattle.divider.specs.Laws.{by-ahb-else}
 use Rattle.layout.specs.Layout.{fitting, packed}
 use Rattle.layout.specs.Lent.{written}
 use Rattle.layout.specs.Order.{written-in-order}
+use Rattle.v4x7.specs.Order.{checkTests}
 use Rattle.v4x7.proofs.Order.{check-in-order}
 use Rattle.profile.specs.Profile as profile
 use Rattle.profile.specs.Order as profileOrder
@@ -30,6 +31,7 @@ use Rattle.h4.specs.Order as order4
 use Rattle.serial.specs.Order.{divisorTests, divisor-in-order}
 use Rattle.capi_give.specs.Given.{decoderHse, Given, numberIn}
 use Rattle.demands.specs.First.{wide}
+use Rattle.demands.proofs.First.{demand1}
 use Rattle.capi.specs.Calls as capi
 use Rattle.capi.specs.Owed.{keyRead, waitsRead, callsRead}
 use Rattle.capi_codec.specs.Codec.{fieldsBy, refusedBy, profileFields, profileFrom, imageFields, imageFrom}
@@ -76,6 +78,10 @@ profiles p = record { goes = profileOrder.read-in-order p }
 images : (i : List ℕ) → InOrder (imageOrder.readTests i) (image.readImage i)
 images i = record { goes = imageOrder.read-in-order i }
 
+-- a profile's check
+checks : (p : List ℕ) → InOrder (profileOrder.readTests p ++ behind (profile.readProfile p) checkTests) (profile.checkProfile p)
+checks p = record { goes = demand1 .check-profile .in-order p }
+
 -- ---- a record taken apart, or made
 
 taken-apart : {A : Type 0} {tests : List Test} (reader : List ℕ → Answer A) (ws s : List ℕ) → InOrder tests (reader s) → InOrder tests (fieldsBy reader ws s)
@@ -106,12 +112,10 @@ keys (suc (suc (suc zero))) = record { goes = refl }
 keys (suc (suc (suc (suc position)))) = rw (le-leb 4 (suc (suc (suc (suc position)))) (omega arith)) (record { goes = refl })
 
 pub demand1-in-c : Demand1InC
-unfolding capi.checkRead capi.decodeRead capi.adcRead capi.rngRead profileFields profileFrom imageFields imageFrom waitsRead callsRead
+unfolding capi.decodeRead capi.adcRead capi.rngRead profileFields profileFrom imageFields imageFrom waitsRead callsRead
     startBytes stepBytes
 demand1-in-c = record {
-  check = λ p.
-      through (order-map _ (capi.sevenOf (capi.checkRead p))
-      (order-map _ (capi.checkRead p) (order-behind (profile.readProfile p) (profiles p) (λ c. record { goes = check-in-order c }))));
+  check = λ p. through (order-map _ (capi.sevenOf (profile.checkProfile p)) (order-map _ (profile.checkProfile p) (checks p)));
   decode = λ i hz.
       through (order-map _ (capi.decodeRead i hz) (order-behind (image.readImage i) (images i) (λ f. record { goes = decode-in-order f (decoderHse hz) })));
   adc = λ i sys.

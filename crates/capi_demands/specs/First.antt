@@ -66,7 +66,7 @@ placeTests x = (30, not (profile.writable (x .startup .config))) ∷ (28, not (i
 
 pub record Demand1InC : Type 0 where
   -- V4x7: the check, the decoder, the queries, behind the readers of profile and image
-  pub check : (p : List ℕ) → Through 7 (sevenWords (capi.sevenOf (capi.checkRead p))) (profileOrder.readTests p ++ behind (profile.readProfile p) checkTests)
+  pub check : (p : List ℕ) → Through 7 (sevenWords (capi.sevenOf (profile.checkProfile p))) (profileOrder.readTests p ++ behind (profile.readProfile p) checkTests)
   pub decode : (i : List ℕ) (hz : ℕ) →
       Through 6 (sixWords (capi.decodeRead i hz)) (imageOrder.readTests i ++ behind (image.readImage i) (λ f. decodeTests f (decoderHse hz)))
   pub adc : (i : List ℕ) (sys : ℕ) →

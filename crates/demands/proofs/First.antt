@@ -1,10 +1,10 @@
 -- The first demand holds. Assumes nothing.
 use Prim.Native.Nat.{ℕ}
 use mathlib.Core.Path.{_≡_, refl, sym, _∙_}
-use mathlib.Core.List.{List, [], _∷_}
+use mathlib.Core.List.{List, [], _∷_, _++_}
 use Rattle.answer.specs.Answer.{Answer, gives, refuses, _>>_, refuses-gives}
 use Rattle.answer.specs.Said.{replySays, outcomeSays, reply-settled, outcome-settled}
-use Rattle.answer.specs.Order.{Test, firstOf, bare, OrElse, else-order, else-refuse}
+use Rattle.answer.specs.Order.{Test, firstOf, bare, behind, order-behind, OrElse, else-order, else-refuse}
 use Rattle.divider.specs.Frequency.{rateSays, rate-settled}
 use Rattle.divider.specs.Divide.{quotientSays, quotient-settled}
 use Rattle.divider.specs.Laws.{ahb-else, apb-else, by-ahb-else, by-apb-else, apb-quotient-else}
@@ -84,6 +84,12 @@ in-range : (hz : ℕ) → bare (hseInRange hz) ≡ firstOf ((4, outside 5000000 
 unfolding hseInRange
 in-range hz = goes (else-refuse 4 (outside 5000000 32000000 hz))
 
+check-profile-in-order : (p : List ℕ) → bare (profile.checkProfile p) ≡ firstOf (profileOrder.readTests p ++ behind (profile.readProfile p) checkTests)
+unfolding profile.checkProfile
+check-profile-in-order p =
+    order-behind {l = profileOrder.readTests p} {k = checkTests} (profile.readProfile p) (record { goes = profileOrder.read-in-order p })
+    (λ c. record { goes = check-in-order c }) .goes
+
 parts : Parts
 parts = record {
   ahb = answers replySays _ (λ n. refl) reply-settled (λ x. goes (ahb-else (x .0) (x .1)));
@@ -115,6 +121,7 @@ parts = record {
 pub demand1 : Demand1
 demand1 = record {
   check = answers checkedSays _ (λ n. refl) checked-settled check-in-order;
+  check-profile = answers checkedSays _ (λ n. refl) checked-settled check-profile-in-order;
   read-profile = answers readProfileSays _ (λ n. refl) profile.read-settled profileOrder.read-in-order;
   read-image = answers readImageSays _ (λ n. refl) image.read-settled imageOrder.read-in-order;
   write-profile =

@@ -12,7 +12,7 @@ use mathlib.Core.Bool.{Bool, not}
 use mathlib.Core.List.{List, [], _∷_, _++_}
 use lib.Dec.{leb}
 use Rattle.answer.specs.Answer.{Answer, gives, refuses, _>>_}
-use Rattle.answer.specs.Order.{Test, firstOf, bare}
+use Rattle.answer.specs.Order.{Test, firstOf, bare, behind}
 use Rattle.answer.specs.Said.{replySays, outcomeSays}
 use Rattle.answer.specs.declared.Reply.the-variants as reply
 use Rattle.answer.specs.declared.Outcome.the-variants as outcome
@@ -39,7 +39,7 @@ use Rattle.v4x7.specs.declared.ClockRecord.{ClockRecord}
 use Rattle.v4x7.specs.declared.Checked.the-variants as checked
 use Rattle.v4x7.specs.Check.{checkedSays, checkOf}
 use Rattle.v4x7.specs.Order.{checkTests}
-use Rattle.profile.specs.Profile.{readProfileSays, readProfile, profileBytes}
+use Rattle.profile.specs.Profile.{readProfileSays, readProfile, checkProfile, profileBytes}
 use Rattle.profile.specs.declared.ReadProfile.the-variants as profile
 use Rattle.profile.specs.Order as profileOrder
 use Rattle.image.specs.declared.Fields.{Fields}
@@ -151,6 +151,7 @@ pub record Parts : Type 0 where
 pub record Demand1 : Type 1 where
   -- V4x7: the check, both readers and writers, the decoder, the queries, the start
   pub check : Answers checkedSays checked.Refused checkOf checkTests
+  pub check-profile : Answers checkedSays checked.Refused checkProfile (λ p. profileOrder.readTests p ++ behind (readProfile p) checkTests)
   pub read-profile : Answers readProfileSays profile.Refused readProfile profileOrder.readTests
   pub read-image : Answers readImageSays image.Refused readImage imageOrder.readTests
   pub write-profile :

@@ -24,7 +24,7 @@ use Rattle.v4x7.specs.declared.ClockRecord.{ClockRecord}
 use Rattle.v4x7.specs.Check.{checkOf, named, sourcesOf, rngOf, hsePresentOf, mainOf, ethOf}
 use Rattle.v4x7.specs.Check.{usbHsOf, referenceOf, sysPllInputOf, sysclkOf, systemOf, adcRatioOf, limitsOf, adcOf}
 use Rattle.layout.specs.Bits.{bitsAt}
-use Rattle.profile.specs.Profile.{readProfile, tests, configOf}
+use Rattle.profile.specs.Profile.{readProfile, checkProfile, tests, configOf}
 
 -- The parts of a configuration that rows name: HSE, main PLL with its source, system clock, SYSPLL source with its divisor less one, USBHS PLL,
 -- ETH PLL, AHB, APB2, ADC source, ADC prescaler; all by their codes.
@@ -182,15 +182,15 @@ rows-hold = refl
 
 -- Rows A11 and A2 whole, from their bytes to the check's answer.
 
-pub a11 : (_>>=_ (readProfile (0x00 ∷ 0x00 ∷ 0x00 ∷ 0x00 ∷ 0x00 ∷ 0x18 ∷ 0x00 ∷ 0x00 ∷ 0x00 ∷ 0x34 ∷ [])) checkOf) ≡ gives (record {
+pub a11 : checkProfile (0x00 ∷ 0x00 ∷ 0x00 ∷ 0x00 ∷ 0x00 ∷ 0x18 ∷ 0x00 ∷ 0x00 ∷ 0x00 ∷ 0x34 ∷ []) ≡ gives (record {
   clocks = record { sysclk = 20000000; hclk = 20000000; pclk1 = 20000000; pclk2 = 20000000; «pclk1_tim» = 20000000; «pclk2_tim» = 20000000 };
   adc = 2500000;
 })
-unfolding readProfile tests configOf bitsAt checkOf named sourcesOf rngOf hsePresentOf mainOf ethOf usbHsOf systemOf sysclkOf
+unfolding checkProfile readProfile tests configOf bitsAt checkOf named sourcesOf rngOf hsePresentOf mainOf ethOf usbHsOf systemOf sysclkOf
     busesOf clocksOf belowOf busOf timerClock adcOf adcRatioOf limitsOf adcFromHclkOf totalOf ahbOf ahbDivisor ahbDivisors apbDivisor byAhbOf apbQuotientOf
     apbOf over
 a11 = refl
 
-pub a2 : (_>>=_ (readProfile (0x80 ∷ 0x13 ∷ 0x12 ∷ 0xCF ∷ 0xC0 ∷ 0x18 ∷ 0x00 ∷ 0x00 ∷ 0x00 ∷ 0x34 ∷ [])) checkOf) ≡ refuses 4
-unfolding readProfile tests configOf bitsAt checkOf named systemOf sourcesOf rngOf hsePresentOf hseInRange
+pub a2 : checkProfile (0x80 ∷ 0x13 ∷ 0x12 ∷ 0xCF ∷ 0xC0 ∷ 0x18 ∷ 0x00 ∷ 0x00 ∷ 0x00 ∷ 0x34 ∷ []) ≡ refuses 4
+unfolding checkProfile readProfile tests configOf bitsAt checkOf named systemOf sourcesOf rngOf hsePresentOf hseInRange
 a2 = refl

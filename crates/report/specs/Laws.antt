@@ -12,8 +12,9 @@ use lib.Seq.{take-all, drop-length}
 use Rattle.answer.specs.Answer.{Answer, gives, refuses}
 use Rattle.answer.specs.Tools.{and-left, and-right, and-both}
 use Rattle.v4x7.specs.declared.ClockRecord.{ClockRecord}
+use Rattle.profile.specs.Profile.{checkProfile}
 use Rattle.text.specs.Text.{ascii, lineOf}
-use Rattle.report.specs.Report.{clocksOf, linesOf, portLines, textOf, sized, answeredOf, reportOf}
+use Rattle.report.specs.Report.{linesOf, portLines, textOf, sized, answeredOf, reportOf}
 
 -- an input has ten bytes and five for each of up to eight ports
 pub record Carries (n : ℕ) : Type 0 where
@@ -51,8 +52,8 @@ no-port (gives x) = append-nil (linesOf (x .clocks) (x .adc))
 no-port (refuses n) = refl
 
 -- with no port every byte is as before
-pub as-before : (s : List ℕ) → length s ≡ 10 → reportOf s ≡ before (clocksOf s)
+pub as-before : (s : List ℕ) → length s ≡ 10 → reportOf s ≡ before (checkProfile s)
 unfolding reportOf answeredOf
 as-before s e =
     let none : drop 10 s ≡ [] = rw (← e) (drop-length s) in
-    rw (e, take-all 10 s (omega arith), none) (no-port (clocksOf s))
+    rw (e, take-all 10 s (omega arith), none) (no-port (checkProfile s))

@@ -12,7 +12,7 @@ use Rattle.serial.specs.Serial.{nearestOf, divisorOf, portOf}
 use Rattle.text.specs.Decimal.{digits, decimal, signed}
 use Rattle.text.specs.DecimalLaws.{in-ten-digits}
 use Rattle.text.specs.Text.{ascii, lineOf}
-use Rattle.report.specs.Report.{clocksOf, linesOf, portLine, portLines, textOf, answeredOf, reportOf}
+use Rattle.report.specs.Report.{linesOf, portLine, portLines, textOf, answeredOf, reportOf}
 
 twenty : decimal 20000000 ≡ ascii "20000000"
 unfolding digits
@@ -25,12 +25,12 @@ two-and-a-half = in-ten-digits 2500000 (lit≤ tt)
 -- row A11, the default
 pub a11 : reportOf (0x00 ∷ 0x00 ∷ 0x00 ∷ 0x00 ∷ 0x00 ∷ 0x18 ∷ 0x00 ∷ 0x00 ∷ 0x00 ∷ 0x34 ∷ [])
     ≡ ascii "sysclk 20000000\nhclk 20000000\npclk1 20000000\npclk2 20000000\npclk1_tim 20000000\npclk2_tim 20000000\nadc 2500000\n"
-unfolding reportOf answeredOf clocksOf textOf linesOf lineOf portLines
+unfolding reportOf answeredOf textOf linesOf lineOf portLines
 a11 = ap (λ (m : Answer ClockRecord). textOf m []) rows.a11 ∙ simp (twenty, two-and-a-half)
 
 -- row A2: HSE 4,999,999
 pub a2 : reportOf (0x80 ∷ 0x13 ∷ 0x12 ∷ 0xCF ∷ 0xC0 ∷ 0x18 ∷ 0x00 ∷ 0x00 ∷ 0x00 ∷ 0x34 ∷ []) ≡ ascii "refused 4\n"
-unfolding reportOf answeredOf clocksOf textOf lineOf decimal digits
+unfolding reportOf answeredOf textOf lineOf decimal digits
 a2 = ap (λ (m : Answer ClockRecord). textOf m []) rows.a2
 
 -- no byte at all
@@ -57,12 +57,12 @@ their-lines k e f = rw (e, f)
 
 -- a refused profile prints its one line only
 pub refused-with-ports : reportOf (0x80 ∷ 0x13 ∷ 0x12 ∷ 0xCF ∷ 0xC0 ∷ 0x18 ∷ 0x00 ∷ 0x00 ∷ 0x00 ∷ 0x34 ∷ ports) ≡ ascii "refused 4\n"
-unfolding reportOf answeredOf clocksOf textOf lineOf decimal digits
+unfolding reportOf answeredOf textOf lineOf decimal digits
 refused-with-ports = ap (λ (m : Answer ClockRecord). textOf m ports) rows.a2
 
 -- the default's lines, and then those of its ports
 pub a11-with-ports : reportOf (0x00 ∷ 0x00 ∷ 0x00 ∷ 0x00 ∷ 0x00 ∷ 0x18 ∷ 0x00 ∷ 0x00 ∷ 0x00 ∷ 0x34 ∷ ports)
     ≡ ascii "sysclk 20000000\nhclk 20000000\npclk1 20000000\npclk2 20000000\npclk1_tim 20000000\npclk2_tim 20000000\nadc 2500000\n"
     ++ ascii "brr 174 error -44800\nrefused 28\nrefused 33\nrefused 34\n"
-unfolding reportOf answeredOf clocksOf textOf linesOf lineOf
+unfolding reportOf answeredOf textOf linesOf lineOf
 a11-with-ports = ap (λ (m : Answer ClockRecord). textOf m ports) rows.a11 ∙ simp (twenty, two-and-a-half, their-lines default refl refl)

@@ -36,7 +36,7 @@ returns-2 c =
     let at-test = c .before .before .before .before .before .before .before in
     let s = at-test .before .before .before .before .args .input .now in
     let t = sym (at-test .before .not-sized .ensures) ∙ at-test .if1 .left in
-    let put = rw (c .before .before .before .before .before .check .ensures, rest s) at (c .before .before .put-answer .ensures) in
+    let put = rw (c .before .before .before .before .before .check-profile .ensures, rest s) at (c .before .before .put-answer .ensures) in
     rw (its-profile s t) (put .0, omega (arith, put .1, few-ports s t, length-drop 10 s))
 
 pub put-text-spec : {M : Type 1} → statement M
