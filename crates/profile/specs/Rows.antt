@@ -191,6 +191,16 @@ unfolding checkProfile readProfile tests configOf bitsAt checkOf named sourcesOf
     apbOf over
 a11 = refl
 
+-- HSI, AHB by 2, APB1 by 4, APB2 by 16, ADC by 8: the seven frequencies all differ
+pub apart : checkProfile (0x00 ∷ 0x00 ∷ 0x00 ∷ 0x00 ∷ 0x00 ∷ 0x18 ∷ 0x04 ∷ 0x5E ∷ 0x00 ∷ 0x34 ∷ []) ≡ gives (record {
+  clocks = record { sysclk = 20000000; hclk = 10000000; pclk1 = 2500000; pclk2 = 625000; «pclk1_tim» = 5000000; «pclk2_tim» = 1250000 };
+  adc = 78125;
+})
+unfolding checkProfile readProfile tests configOf bitsAt checkOf named sourcesOf rngOf hsePresentOf mainOf ethOf usbHsOf systemOf sysclkOf
+    busesOf clocksOf belowOf busOf timerClock adcOf adcRatioOf limitsOf adcFromHclkOf totalOf ahbOf ahbDivisor ahbDivisors apbDivisor byAhbOf apbQuotientOf
+    apbOf over
+apart = refl
+
 pub a2 : checkProfile (0x80 ∷ 0x13 ∷ 0x12 ∷ 0xCF ∷ 0xC0 ∷ 0x18 ∷ 0x00 ∷ 0x00 ∷ 0x00 ∷ 0x34 ∷ []) ≡ refuses 4
 unfolding checkProfile readProfile tests configOf bitsAt checkOf named systemOf sourcesOf rngOf hsePresentOf hseInRange
 a2 = refl

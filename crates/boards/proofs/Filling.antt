@@ -1,0 +1,90 @@
+-- Runs of bytes stored one behind another: what is still to be stored, from turn to turn of a loop. Assumes nothing.
+use Prim.Native.Nat.{ℕ, suc, _+_, _-_, _*_, _/_, _%_, _<_, _≤_}
+use mathlib.Core.Path.{_≡_, refl, sym, ap, _∙_}
+use mathlib.Core.List.{List, [], _∷_, _++_, append-nil}
+use native.Mathlib.Nat.{add-zero, zero-add, suc-add, add-suc}
+use native.Mathlib.Omega.{arith}
+use lib.ListN.{length, set, getD, take, drop}
+use borrow.Author.Tests.{lt-ltb, le-ltb, ne-eqb}
+use lib.Seq.{sets, sets-eq, drop-cons, drop-drop, drop-length}
+use Rattle.answer.specs.Answer.{Answer}
+use Rattle.v4x7.specs.declared.ClockRecord.{ClockRecord}
+use Rattle.profile.specs.Profile.{checkProfile}
+use Rattle.layout.specs.Layout.{unpack, bytes}
+use Rattle.layout.specs.Lent.{Wrote}
+use Rattle.answer.specs.declared.Outcome.the-variants.{Done, Refused}
+use Rattle.boards.specs.Tray.{numbersOf, inFours, boardOf, boardsIn, recordsOf, trayOf}
+use Rattle.boards.specs.Laws.{board-length, records-length}
+
+-- one run, and another behind it
+pub sets-append : (l : List ℕ) (at : ℕ) (xs ys : List ℕ) → sets l at (xs ++ ys) ≡ sets (sets l at xs) (at + length xs) ys
+sets-append l at [] ys = rw add-zero
+sets-append l at (x ∷ xs) ys =
+    sets-append (set l at x) (suc at) xs ys
+    ∙ ap (λ (n : ℕ). sets (sets (set l at x) (suc at) xs) n ys) (suc-add at (length xs) ∙ sym (add-suc at (length xs)))
+
+-- a run over all there is
+pub sets-whole : (l xs : List ℕ) → length xs ≡ length l → sets l 0 xs ≡ xs
+sets-whole l xs e = sets-eq xs l 0 (omega arith) ∙ rw (zero-add, e, drop-length) (append-nil xs)
+
+-- the record of a check's answer
+pub its-record : (p xs : List ℕ) {m : Answer ClockRecord} → xs ≡ numbersOf m → m ≡ checkProfile p → inFours xs ≡ boardOf p
+unfolding boardOf
+its-record p xs e q = rw (e, q)
+
+-- the numbers from i on are still to be stored
+pub number-stored : (out g xs : List ℕ) (at i : ℕ) → i < length xs → sets out (at + 4 * i) (inFours (drop i xs)) ≡ g →
+    sets (sets out (at + 4 * i) (unpack (bytes 4) (getD xs i 0))) (at + 4 * (i + 1)) (inFours (drop (i + 1) xs)) ≡ g
+number-stored out g xs at i h p =
+    let four = unpack (bytes 4) (getD xs i 0) in
+    let e : at + 4 * i + 4 ≡ at + 4 * (i + 1) = omega arith in
+    let f : suc i ≡ i + 1 = omega arith in
+    rw (sym e)
+    (sym (sets-append out (at + 4 * i) four (inFours (drop (i + 1) xs)))
+    ∙ ap (λ (n : ℕ). sets out (at + 4 * i) (four ++ inFours (drop n xs))) (sym f)
+    ∙ ap (λ (l : List ℕ). sets out (at + 4 * i) (inFours l)) (sym (drop-cons xs i 0 h))
+    ∙ p)
+
+-- none is stored yet
+pub none-stored : (out s : List ℕ) (n : ℕ) → sets out 0 (recordsOf (n - 0) s) ≡ sets out 0 (recordsOf n s)
+none-stored out s n = let z : n - 0 ≡ n = omega arith in rw z
+
+-- the boards from i on are still to be stored
+pub board-stored : (out g s : List ℕ) (n i : ℕ) → i < n → sets out (i * 32) (recordsOf (n - i) (drop (i * 10) s)) ≡ g →
+    sets (sets out (i * 32) (boardOf (take 10 (drop (i * 10) s)))) ((i + 1) * 32) (recordsOf (n - (i + 1)) (drop ((i + 1) * 10) s)) ≡ g
+unfolding recordsOf
+board-stored out g s n i h p =
+    let rest : List ℕ = drop (i * 10) s in
+    let one : List ℕ = boardOf (take 10 rest) in
+    let e : n - i ≡ suc (n - (i + 1)) = omega arith in
+    let f : i * 10 + 10 ≡ (i + 1) * 10 = omega arith in
+    let k : i * 32 + length one ≡ (i + 1) * 32 = omega (arith, board-length (take 10 rest)) in
+    rw (sym k, sym f, sym (drop-drop 10 (i * 10) s))
+    (sym (sets-append out (i * 32) one (recordsOf (n - (i + 1)) (drop 10 rest)))
+    ∙ ap (λ (j : ℕ). sets out (i * 32) (recordsOf j rest)) (sym e)
+    ∙ p)
+
+-- all are stored
+pub boards-stored : (out g s : List ℕ) (n i : ℕ) → n ≤ i → sets out (i * 32) (recordsOf (n - i) (drop (i * 10) s)) ≡ g → out ≡ g
+unfolding recordsOf
+boards-stored out g s n i h p = let e : n - i ≡ 0 = omega arith in rw e at p
+
+-- a tray, by the way that its call took
+module _ (s l : List ℕ) where
+  pub short : length l / 32 < boardsIn s → Wrote (32 * boardsIn s) (trayOf s) l l (Refused 32)
+  short h = let t = lt-ltb (length l) (32 * boardsIn s) (omega arith) in record { answer = rw t; bytes = rw t }
+
+  pub cut : boardsIn s ≤ length l / 32 → (length s % 10 ≡ 0 → ⊥) → Wrote (32 * boardsIn s) (trayOf s) l l (Refused 29)
+  unfolding trayOf
+  cut h e =
+      let t = le-ltb (length l) (32 * boardsIn s) (omega arith) in
+      let u = ne-eqb (length s % 10) 0 e in
+      record { answer = rw (t, u); bytes = rw (t, u) }
+
+  pub served : {l′ : List ℕ} → boardsIn s ≤ length l / 32 → length s % 10 ≡ 0 → l′ ≡ sets l 0 (recordsOf (boardsIn s) s) →
+      Wrote (32 * boardsIn s) (trayOf s) l l′ Done
+  unfolding trayOf
+  served h e q =
+      let t = le-ltb (length l) (32 * boardsIn s) (omega arith) in
+      let size = records-length (boardsIn s) s in
+      record { answer = rw (t, e); bytes = rw (t, e) (q ∙ sets-eq (recordsOf (boardsIn s) s) l 0 (omega arith) ∙ rw (zero-add, size)) }

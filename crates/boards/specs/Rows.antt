@@ -1,0 +1,85 @@
+-- Worked boards and trays, of the definitions. Boards: row A11 of document 01; row A2, which is refused by 4; and one whose seven frequencies all
+-- differ: HSI's 20 MHz, AHB by 2, APB1 by 4, APB2 by 16, the ADC by 8. Trays: how they are answered by their lengths, where 32 and 29 compete too.
+-- Assumes nothing.
+use Prim.Native.Nat.{ℕ, _*_}
+use mathlib.Core.Path.{_≡_, refl, ap}
+use mathlib.Core.List.{List, [], _∷_, _++_, map, append-nil}
+use lib.ListN.{replicate}
+use Rattle.answer.specs.Answer.{Answer, gives, refuses}
+use Rattle.answer.specs.Order.{bare}
+use Rattle.layout.specs.Lent.{written}
+use Rattle.v4x7.specs.declared.ClockRecord.{ClockRecord}
+use Rattle.profile.specs.Profile.{checkProfile}
+use Rattle.profile.specs.Rows as rows
+use Rattle.boards.specs.Tray.{numbersOf, inFours, boardOf, boardsIn, recordsOf, trayOf}
+
+abbrev a11 : List ℕ
+a11 = 0x00 ∷ 0x00 ∷ 0x00 ∷ 0x00 ∷ 0x00 ∷ 0x18 ∷ 0x00 ∷ 0x00 ∷ 0x00 ∷ 0x34 ∷ []
+
+abbrev a2 : List ℕ
+a2 = 0x80 ∷ 0x13 ∷ 0x12 ∷ 0xCF ∷ 0xC0 ∷ 0x18 ∷ 0x00 ∷ 0x00 ∷ 0x00 ∷ 0x34 ∷ []
+
+abbrev apart : List ℕ
+apart = 0x00 ∷ 0x00 ∷ 0x00 ∷ 0x00 ∷ 0x00 ∷ 0x18 ∷ 0x04 ∷ 0x5E ∷ 0x00 ∷ 0x34 ∷ []
+
+-- a board's record, of what its check says
+shown : (p : List ℕ) {m : Answer ClockRecord} → checkProfile p ≡ m → boardOf p ≡ inFours (numbersOf m)
+unfolding boardOf
+shown p e = ap (λ (m : Answer ClockRecord). inFours (numbersOf m)) e
+
+pub a11-board : boardOf a11 ≡
+    0x00 ∷ 0x00 ∷ 0x00 ∷ 0x00  -- accepted
+    ∷ 0x01 ∷ 0x31 ∷ 0x2D ∷ 0x00  -- SYSCLK 20,000,000
+    ∷ 0x01 ∷ 0x31 ∷ 0x2D ∷ 0x00
+    ∷ 0x01 ∷ 0x31 ∷ 0x2D ∷ 0x00
+    ∷ 0x01 ∷ 0x31 ∷ 0x2D ∷ 0x00
+    ∷ 0x01 ∷ 0x31 ∷ 0x2D ∷ 0x00
+    ∷ 0x01 ∷ 0x31 ∷ 0x2D ∷ 0x00
+    ∷ 0x00 ∷ 0x26 ∷ 0x25 ∷ 0xA0  -- ADC 2,500,000
+    ∷ []
+a11-board = shown a11 rows.a11
+
+pub a2-board : boardOf a2 ≡ 0x00 ∷ 0x00 ∷ 0x00 ∷ 0x04 ∷ replicate 28 0
+a2-board = shown a2 rows.a2
+
+pub apart-board : boardOf apart ≡
+    0x00 ∷ 0x00 ∷ 0x00 ∷ 0x00  -- accepted
+    ∷ 0x01 ∷ 0x31 ∷ 0x2D ∷ 0x00  -- SYSCLK 20,000,000
+    ∷ 0x00 ∷ 0x98 ∷ 0x96 ∷ 0x80  -- HCLK 10,000,000
+    ∷ 0x00 ∷ 0x26 ∷ 0x25 ∷ 0xA0  -- PCLK1 2,500,000
+    ∷ 0x00 ∷ 0x09 ∷ 0x89 ∷ 0x68  -- PCLK2 625,000
+    ∷ 0x00 ∷ 0x4C ∷ 0x4B ∷ 0x40  -- PCLK1's timers 5,000,000
+    ∷ 0x00 ∷ 0x13 ∷ 0x12 ∷ 0xD0  -- PCLK2's timers 1,250,000
+    ∷ 0x00 ∷ 0x01 ∷ 0x31 ∷ 0x2D  -- ADC 78,125
+    ∷ []
+apart-board = shown apart rows.apart
+
+-- a refused board between two accepted ones
+pub three : trayOf (apart ++ a2 ++ a11) ≡ gives (boardOf apart ++ (boardOf a2 ++ boardOf a11))
+unfolding trayOf recordsOf
+three = ap (λ (l : List ℕ). gives (boardOf apart ++ (boardOf a2 ++ l))) (append-nil (boardOf a11))
+
+-- So many bytes of profiles, so many lent: how the tray is answered.
+abbrev Row : Type 0
+Row = ℕ × ℕ × Answer (Unit {0})
+
+pub lengths : List Row
+lengths =
+    (0, 0, gives tt)
+    ∷ (9, 0, refuses 29)
+    ∷ (10, 31, refuses 32)
+    ∷ (10, 32, gives tt)
+    ∷ (19, 31, refuses 32)  -- 29 holds as well
+    ∷ (19, 32, refuses 29)
+    ∷ (20, 63, refuses 32)
+    ∷ (4000, 12799, refuses 32)
+    ∷ (4010, 12832, gives tt)  -- more than 400 boards
+    ∷ (4011, 12832, refuses 29)
+    ∷ []
+
+pub answered : Row → Row
+answered (n, m, r) = let s : List ℕ = replicate n 0 in (n, m, bare (written (32 * boardsIn s) (trayOf s) (replicate m 0)))
+
+pub lengths-hold : map answered lengths ≡ lengths
+unfolding answered lengths trayOf
+lengths-hold = refl

@@ -1,0 +1,41 @@
+-- A tray of boards at once: document 02, K2.
+-- Assumes nothing.
+use Prim.Native.Nat.{ℕ, zero, suc, _/_, _%_}
+use mathlib.Core.Bool.{not}
+use mathlib.Core.List.{List, [], _∷_, _++_}
+use lib.Dec.{eqb}
+use lib.ListN.{length, take, drop, replicate}
+use Rattle.answer.specs.Answer.{Answer, gives, refuses, refuse, _>>_}
+use Rattle.layout.specs.Layout.{unpack, bytes}
+use Rattle.v4x7.specs.declared.ClockRecord.{ClockRecord}
+use Rattle.profile.specs.Profile.{checkProfile}
+
+-- "refusal number or 0, then the seven reported frequencies in the program's order .. zeros after a refusal"
+abbrev pub numbersOf : Answer ClockRecord → List ℕ
+numbersOf (gives x) =
+    0 ∷ x .clocks .sysclk ∷ x .clocks .hclk ∷ x .clocks .pclk1 ∷ x .clocks .pclk2 ∷ x .clocks .«pclk1_tim» ∷ x .clocks .«pclk2_tim» ∷ x .adc ∷ []
+numbersOf (refuses n) = n ∷ replicate 7 0
+
+-- ".. all eight as four bytes, most significant byte first"
+abbrev pub inFours : List ℕ → List ℕ
+inFours [] = []
+inFours (x ∷ xs) = unpack (bytes 4) x ++ inFours xs
+
+-- the 32 bytes of a board: a function of its profile alone
+unfoldable pub boardOf : List ℕ → List ℕ
+boardOf p = inFours (numbersOf (checkProfile p))
+
+-- how many boards there are: one for each whole ten bytes
+abbrev pub boardsIn : List ℕ → ℕ
+boardsIn s = length s / 10
+
+-- the 32 bytes of each of n boards, whose profiles lie back to back
+unfoldable pub recordsOf : ℕ → List ℕ → List ℕ
+recordsOf zero s = []
+recordsOf (suc n) s = boardOf (take 10 s) ++ recordsOf n (drop 10 s)
+
+-- the bytes that a tray is written as; 29: its length is not a multiple of ten. (32 comes before it: `Wrote`.)
+unfoldable pub trayOf : List ℕ → Answer (List ℕ)
+trayOf s = do
+  refuse 29 (not (eqb (length s % 10) 0))
+  gives (recordsOf (boardsIn s) s)

@@ -1,0 +1,91 @@
+// A tray of boards at once: profiles back to back, and for each the 32 bytes that say what its check says.
+ghost use mathlib.Core.Path.{_≡_};
+ghost use Prim.Native.Nat.{_+_, _*_, _≤_};
+ghost use lib.ListN.{length};
+ghost use lib.Seq.{sets};
+ghost use Rattle.v4x7.specs.Check.{checkedSays};
+ghost use Rattle.layout.specs.Layout.{unpack, bytes};
+ghost use Rattle.layout.specs.Lent.{Wrote};
+ghost use Rattle.boards.specs.Tray.{numbersOf, inFours, boardOf, boardsIn, trayOf};
+use answer::Outcome;
+use v4x7::Checked;
+
+// The bytes of a profile.
+pub const PROFILE: usize = 10;
+// The bytes of a board's record.
+pub const RECORD: usize = 32;
+
+// The numbers of a board's record: the refusal number or 0, then the seven frequencies in the program's order; zeros after a refusal.
+fn numbers(checked: Checked) -> [u32; 8]
+    ensures { λ r. ⌜ r ≡ numbersOf (checkedSays checked) ⌝ }
+{
+    let Checked::Accepted(accepted) = checked else {
+        return [v4x7::refused(checked) as u32, 0, 0, 0, 0, 0, 0, 0];
+    };
+    let k = accepted.clocks;
+    [
+        0,
+        k.sysclk,
+        k.hclk,
+        k.pclk1,
+        k.pclk2,
+        k.pclk1_tim,
+        k.pclk2_tim,
+        accepted.adc,
+    ]
+}
+
+// Writes a number as four bytes, the most significant first.
+fn put_number(out: &mut [u8], at: usize, x: u32)
+    requires { ⌜ at + 4 ≤ length (now out) ⌝ }
+    ensures { λ _. ⌜ now (out .exit) ≡ sets (now (out .entry)) at (unpack (bytes 4) x) ⌝ }
+{
+    let four = layout::four_bytes(x);
+    out[at] = four[0];
+    out[at + 1] = four[1];
+    out[at + 2] = four[2];
+    out[at + 3] = four[3];
+}
+
+// Writes the eight numbers of a record.
+fn put_record(out: &mut [u8], at: usize, xs: [u32; 8])
+    requires { ⌜ at + 32 ≤ length (now out) ⌝ }
+    ensures { λ _. ⌜ now (out .exit) ≡ sets (now (out .entry)) at (inFours xs) ⌝ }
+{
+    let mut i = 0;
+    while i < 8 {
+        put_number(out, at + 4 * i, xs[i]);
+        i += 1;
+    }
+}
+
+// The record of one board. A profile that is not ten bytes is refused by 29, as its record says.
+pub fn board(profile: &[u8]) -> [u8; 32]
+    ensures { λ r. ⌜ r ≡ boardOf (now (profile .entry)) ⌝ }
+{
+    let mut record = [0u8; RECORD];
+    put_record(&mut record, 0, numbers(profile::check_profile(profile)));
+    record
+}
+
+// Writes the records of all profiles, which lie back to back, at the start of out; the bytes beyond stay.
+// Refused by 32: out has fewer than 32 bytes for each whole ten of profiles. Then by 29: their length is not a multiple of ten.
+pub fn tray(profiles: &[u8], out: &mut [u8]) -> Outcome
+    ensures { λ r. ⌜ Wrote (32 * boardsIn (now (profiles .entry))) (trayOf (now (profiles .entry))) (now (out .entry)) (now (out .exit)) r ⌝ }
+{
+    let boards = profiles.len() / PROFILE;
+    if out.len() / RECORD < boards {
+        return Outcome::Refused(answer::OUTPUT_TOO_SHORT);
+    }
+    if profiles.len() % PROFILE != 0 {
+        return Outcome::Refused(answer::PROFILE_LENGTH);
+    }
+    let mut i = 0;
+    while i < boards {
+        let at = i * PROFILE;
+        let checked = profile::check_profile(&profiles[at..at + PROFILE]);
+        put_record(out, i * RECORD, numbers(checked));
+        i += 1;
+    }
+    Outcome::Done
+}
