@@ -1,7 +1,7 @@
--- `clocks::drain` is safe and ends. The measure is the number of turns that are left; nothing has to hold from turn to turn. Assumes nothing.
+-- `input::drain` is safe and ends. The measure is the number of turns that are left; nothing has to hold from turn to turn. Assumes nothing.
 use borrow.Author.Needs.{needs}
-use Rattle.clocks.proofs.drain.Statement.{statement}
-use Rattle.clocks.proofs.drain.Tie as tie
+use Rattle.input.proofs.drain.Statement.{statement}
+use Rattle.input.proofs.drain.Tie as tie
 
 abbrev Inv-loop : tie.InvT-loop
 Inv-loop turns₀ turns = Unit {0}
