@@ -1,5 +1,6 @@
-# How a command has crates proved (one run at a time in a checkout, a line a crate, rt's own words in a log), and runs a proved program. bin/clocks and
-# include/archive read this file; they set `root`, the repository, and `me`, what their lines begin with.
+# How a command has crates proved (one run at a time in a checkout, a line a crate, rt's own words in a log), and runs a proved program. bin/clocks,
+# bin/tray and include/archive read this file; they set `root`, the repository, and `me`, what their lines begin with. At its end stands what the commands
+# of bin/ share: how they read bytes, and how they write an answer.
 
 say() { printf '%s: %s\n' "$me" "$*" >&2; }
 
@@ -113,5 +114,54 @@ run() { # PROGRAM
     ${emulator:+"$emulator"} "$loader" --library-path "$tools/lib" "$root/target/bin/$1"
 }
 
+# Nothing is done where the answer could not be written.
+need_output() { (exec 3>&1) 2>/dev/null || fail 'standard output is closed'; }
+
 # Writes a text; where that fails, the status is no answer's.
 show() { printf '%s\n' "$1" 2>/dev/null || fail "standard output can't be written"; }
+
+need_input() { (exec 3<&0) 2>/dev/null || fail 'standard input is closed'; }
+
+# A file that can be read.
+need_file() { # FILE
+    [ -e "$1" ] || fail "there is no file $1"
+    [ ! -d "$1" ] || fail "$1 is a folder"
+    [ -r "$1" ] || fail "$1 can't be read"
+}
+
+# Standard input is a file, a pipe or the like: open, no terminal, and not /dev/null.
+is_given() { (exec 3<&0) 2>/dev/null && [ ! -t 0 ] && ! [ /dev/fd/0 -ef /dev/null ]; }
+
+# The first byte of standard input. Where none comes for a while, a line says what is awaited.
+first() { # AWAITED
+    timeout --foreground 3 dd bs=1 count=1 2>/dev/null
+    status=$?
+    [ $status -ne 124 ] || { say "waits for $1 on standard input (bin/$me --help)"; status=0; dd bs=1 count=1 2>/dev/null || status=$?; }
+    return $status
+}
+
+# The first bytes of standard input, up to MOST, as hexadecimal words; the word `unread` where it can't be read.
+# With `all` the rest is read too and thrown away, so that a writer sees no broken pipe.
+words() { # AWAITED MOST [all]
+    {
+        { first "$1" && head -c $(($2 - 1)) 2>/dev/null && { [ "${3-}" != all ] || cat >/dev/null 2>&1; } || echo unread >&3; } | od -An -v -tx1
+    } 3>&1
+}
+
+# Words in hexadecimal as bytes.
+bytes() { # WORD ..
+    printf '%b' "$(printf '%s\n' "$*" | awk '
+        BEGIN { for (i = 0; i < 256; i++) octal[sprintf("%02x", i)] = sprintf("\\0%03o", i) }
+        { for (i = 1; i <= NF; i++) printf "%s", octal[tolower($i)] }')"
+}
+
+# Whether these bytes, one or more, are hexadecimal text: digits, 0x, and what may stand between.
+is_hexadecimal() { # WORD ..
+    ! printf '%s\n' "$*" | tr -s ' ' '\n' | grep -qvxE '(3[0-9]|4[1-6]|6[1-6]|58|78|20|2c|09|0a|0d)?'
+}
+
+# A refusal's number with its sentence, and where there is more about it.
+sentence() { # N
+    text=$(sed -n "s/^## \($1: .*\)/\1/p" "$root/docs/REFUSALS.md" 2>/dev/null)
+    echo "${text:-$1} (bin/clocks --explain $1)"
+}
