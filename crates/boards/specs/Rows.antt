@@ -73,7 +73,8 @@ lengths =
     ∷ (19, 32, refuses 29)
     ∷ (20, 63, refuses 32)
     ∷ (4000, 12799, refuses 32)
-    ∷ (4010, 12832, gives tt)  -- more than 400 boards
+    ∷ (4010, 12831, refuses 32)  -- 401 boards
+    ∷ (4010, 12832, gives tt)
     ∷ (4011, 12832, refuses 29)
     ∷ []
 
