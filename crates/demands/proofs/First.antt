@@ -1,5 +1,5 @@
 -- The first demand holds. Assumes nothing.
-use Prim.Native.Nat.{ℕ}
+use Prim.Native.Nat.{ℕ, _*_}
 use mathlib.Core.Path.{_≡_, refl, sym, _∙_}
 use mathlib.Core.List.{List, [], _∷_, _++_}
 use Rattle.answer.specs.Answer.{Answer, gives, refuses, _>>_, refuses-gives}
@@ -40,6 +40,8 @@ use Rattle.h4.specs.H4.{prescaledSays, prescaled-settled, bus-settled}
 use Rattle.h4.specs.Order as order4
 use Rattle.serial.specs.Serial.{serialSays, serial-settled}
 use Rattle.serial.specs.Order.{divisor-in-order, port-in-order}
+use Rattle.boards.specs.Tray.{boardsIn, trayOf}
+use Rattle.boards.specs.Order.{tray-in-order}
 use Rattle.report.specs.Order.{report-in-order}
 use Rattle.capi_give.specs.Given.{numberIn, GivenOne}
 use Rattle.demands.specs.First.{Answers, writeOf, Parts, Demand1}
@@ -149,6 +151,9 @@ demand1 = record {
   doubled4 = answers replySays _ (λ n. refl) reply-settled order4.doubled-in-order;
   divisor = answers serialSays _ (λ n. refl) serial-settled (λ x. divisor-in-order (x .0) (x .1));
   port = answers serialSays _ (λ n. refl) serial-settled (λ x. port-in-order (x .0) (x .1) (x .2));
+  tray =
+      answers outcomeSays _ (λ n. refl) outcome-settled
+      (λ x. writes (32 * boardsIn (x .0)) (trayOf (x .0)) (x .1) ∙ tray-in-order (x .0) (x .1));
   reported = report-in-order;
   parts = parts;
   write = λ n m l l′ k w. left l l′ k (written n m l) (w .answer) (w .bytes);

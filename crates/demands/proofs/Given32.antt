@@ -1,9 +1,10 @@
--- The same of V1, L1, V30x, H4 and serial divisors, and all of it together.
+-- The same of V1, L1, V30x, H4, serial divisors and trays, and all of it together.
 -- Assumes nothing.
-use Prim.Native.Nat.{ℕ}
+use Prim.Native.Nat.{ℕ, _*_}
 use mathlib.Core.Path.{refl}
 use mathlib.Core.Bool.{Bool, true, false}
 use mathlib.Core.List.{List, [], _∷_}
+use lib.ListN.{replicate}
 use Rattle.answer.specs.Answer.{gives}
 use Rattle.divider.specs.declared.Family.the-variants.{H4}
 use Rattle.divider.specs.declared.Frequency.{Frequency}
@@ -40,7 +41,8 @@ use Rattle.h4.specs.declared.Prescale.{Prescale}
 use Rattle.h4.specs.H4.{pclkOf, doubledOf, prescaledOf}
 use Rattle.serial.specs.Serial.{nearestOf, divisorOf, portOf}
 use Rattle.serial.specs.Rows.{clocks}
-use Rattle.demands.specs.First.{EachGiven, checkGiven1, checkGiven30, Demand1Exact}
+use Rattle.boards.specs.Tray.{boardsIn, trayOf}
+use Rattle.demands.specs.First.{EachGiven, writeOf, checkGiven1, checkGiven30, Demand1Exact}
 use Rattle.demands.proofs.Given.{by, by-row, each-behind, checks, starts, decodes, adc-queries, rng-queries}
 use Rattle.demands.proofs.Given.{read-profiles, read-images, write-profiles, write-images}
 
@@ -165,6 +167,11 @@ ports : EachGiven (λ (x : Clocks × ℕ × ℕ). portOf (x .0) (x .1) (x .2)) (
 unfolding clocks portOf divisorOf nearestOf
 ports = (by (clocks, 0, 0) refl, (by (clocks, 1, 0) refl, (by (clocks, 1, 8000000) refl, tt)))
 
+-- ten bytes of profiles, and one, with nothing lent
+trays : EachGiven (λ (x : List ℕ × List ℕ). writeOf (32 * boardsIn (x .0)) (trayOf (x .0)) (x .1)) (32 ∷ 29 ∷ [])
+unfolding trayOf
+trays = (by (replicate 10 0, []) refl, (by (0 ∷ [], []) refl, tt))
+
 pub demand1-exact : Demand1Exact
 demand1-exact = record {
   check = checks;
@@ -188,4 +195,5 @@ demand1-exact = record {
   doubled4 = doubled-4;
   divisor = divisors;
   port = ports;
+  tray = trays;
 }

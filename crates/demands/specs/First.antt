@@ -6,7 +6,7 @@
 -- Of lent memory: a refused write, a call for C and Rust that returns a number, and a startup answered 28 leave what was handed in.
 -- `Demand1Exact`: the families' calls give every number of their lists, 16 apart.
 -- Assumes nothing.
-use Prim.Native.Nat.{ℕ}
+use Prim.Native.Nat.{ℕ, _*_}
 use mathlib.Core.Path.{_≡_}
 use mathlib.Core.Bool.{Bool, not}
 use mathlib.Core.List.{List, [], _∷_, _++_}
@@ -82,6 +82,8 @@ use Rattle.h4.specs.Order.{pclkTests, prescaledTests}
 use Rattle.serial.specs.declared.Serial.the-variants as serial
 use Rattle.serial.specs.Serial.{serialSays, divisorOf, portOf}
 use Rattle.serial.specs.Order.{divisorTests, portTests}
+use Rattle.boards.specs.Tray.{boardsIn, trayOf}
+use Rattle.boards.specs.Order.{trayTests}
 use Rattle.report.specs.Report.{reportedOf}
 use Rattle.report.specs.Order.{reportTests}
 use Rattle.capi_give.specs.Given.{Given, GivenOne}
@@ -190,6 +192,9 @@ pub record Demand1 : Type 1 where
   -- serial divisors, of a bus's clock and of a port: document 02, K1
   pub divisor : Answers serialSays serial.Refused (λ (x : ℕ × ℕ). divisorOf (x .0) (x .1)) (λ x. divisorTests (x .0) (x .1))
   pub port : Answers serialSays serial.Refused (λ (x : Clocks × ℕ × ℕ). portOf (x .0) (x .1) (x .2)) (λ x. portTests (x .0) (x .1) (x .2))
+  -- a tray of boards: document 02, K2
+  pub tray :
+      Answers outcomeSays outcome.Refused (λ (x : List ℕ × List ℕ). writeOf (32 * boardsIn (x .0)) (trayOf (x .0)) (x .1)) (λ x. trayTests (x .0) (x .1))
   -- the report, which refuses by 32 alone
   pub reported : (s l : List ℕ) → bare (reportedOf s l) ≡ firstOf (reportTests s l)
   -- and the calls that these are made of
@@ -250,3 +255,4 @@ pub record Demand1Exact : Type 0 where
   pub doubled4 : EachGiven doubledOf (28 ∷ [])
   pub divisor : EachGiven (λ (x : ℕ × ℕ). divisorOf (x .0) (x .1)) (33 ∷ 34 ∷ [])
   pub port : EachGiven (λ (x : Clocks × ℕ × ℕ). portOf (x .0) (x .1) (x .2)) (28 ∷ 33 ∷ 34 ∷ [])
+  pub tray : EachGiven (λ (x : List ℕ × List ℕ). writeOf (32 * boardsIn (x .0)) (trayOf (x .0)) (x .1)) (32 ∷ 29 ∷ [])
