@@ -29,6 +29,7 @@ use Rattle.startup.specs.Call.{keyOf}
 use Rattle.startup.specs.Order.{append-none, owed-goes, calls-goes}
 use Rattle.h4.specs.Order as order4
 use Rattle.serial.specs.Order.{divisorTests, divisor-in-order}
+use Rattle.boards.specs.Order.{trayTests, tray-in-order}
 use Rattle.capi_give.specs.Given.{decoderHse, Given, numberIn}
 use Rattle.demands.specs.First.{wide}
 use Rattle.demands.proofs.First.{demand1}
@@ -43,7 +44,7 @@ use Rattle.capi_v1.specs.Order as order1
 use Rattle.capi_v30x.specs.Order as order30
 use Rattle.capi_h4.specs.Order.{clocks-call-in-order, pclk-call-in-order}
 use Rattle.capi_serial.specs.Calls.{GivenSerial}
-use Rattle.capi_demands.specs.First.{Through, ThroughOne, ThroughTwo, refusing, placeTests, Demand1InC}
+use Rattle.capi_demands.specs.First.{Through, ThroughOne, ThroughTwo, refusing, placeTests, SerialGoes, TrayGoes, Demand1InC}
 
 -- ---- from an answer to the number returned
 
@@ -111,6 +112,14 @@ keys (suc (suc zero)) = record { goes = refl }
 keys (suc (suc (suc zero))) = record { goes = refl }
 keys (suc (suc (suc (suc position)))) = rw (le-leb 4 (suc (suc (suc (suc position)))) (omega arith)) (record { goes = refl })
 
+-- ---- the serial divisor, and a tray
+
+serial-goes : SerialGoes
+serial-goes pclk rate = through-two {tests = divisorTests pclk rate} (record { goes = divisor-in-order pclk rate })
+
+tray-goes : TrayGoes
+tray-goes s = returned (trayTests s) (tray-in-order s)
+
 pub demand1-in-c : Demand1InC
 unfolding capi.decodeRead capi.adcRead capi.rngRead profileFields profileFrom imageFields imageFrom waitsRead callsRead
     startBytes stepBytes
@@ -151,5 +160,6 @@ demand1-in-c = record {
   hclk4 = λ ahb fpre. through-one order-gives;
   pclk4 = λ hclk ppre. returned (λ l. (32, ltb (length l) 2) ∷ order4.pclkTests ppre) (pclk-call-in-order hclk ppre);
   doubled4 = λ position. through-one {tests = wide 32 position} (record { goes = order4.doubled-in-order position });
-  serial = λ pclk rate. through-two {tests = divisorTests pclk rate} (record { goes = divisor-in-order pclk rate });
+  serial = serial-goes;
+  tray = tray-goes;
 }

@@ -3,11 +3,11 @@
 -- then those of the call behind it, over what was read. That a refusal leaves what was lent is `Demand1`'s `call` and `call-one`, and of two lent numbers
 -- `ThroughTwo`; that two results of a call are equal, `given-settled`, `given-one-settled` and `given-serial-settled`.
 -- Assumes nothing.
-use Prim.Native.Nat.{ℕ}
+use Prim.Native.Nat.{ℕ, _*_, _%_}
 use mathlib.Core.Path.{_≡_}
 use mathlib.Core.Bool.{Bool, true, false, not}
 use mathlib.Core.List.{List, [], _∷_, _++_}
-use lib.Dec.{ltb}
+use lib.Dec.{ltb, eqb}
 use lib.IntN.{ℤ}
 use lib.ListN.{length, take, drop}
 use Rattle.answer.specs.Answer.{Answer, gives, refuses}
@@ -27,6 +27,7 @@ use Rattle.h4.specs.H4.{doubledOf}
 use Rattle.h4.specs.Order as order4
 use Rattle.serial.specs.Serial.{divisorOf}
 use Rattle.serial.specs.Order.{divisorTests}
+use Rattle.boards.specs.Tray.{boardsIn, trayOf}
 use Rattle.capi_give.specs.Given.{decoderHse, Given, GivenOne, numberIn, twoWords, sixWords, sevenWords}
 use Rattle.demands.specs.First.{wide}
 use Rattle.capi.specs.Calls as capi
@@ -63,6 +64,14 @@ refusing (refuses n) = true
 -- the writers of profile and image, for a place
 abbrev pub placeTests : Stepped → List Test
 placeTests x = (30, not (profile.writable (x .startup .config))) ∷ (28, not (image.inWidth (x .startup .fields))) ∷ []
+
+-- the serial divisor of a PCLK and a rate
+abbrev pub SerialGoes : Type 0
+SerialGoes = (pclk rate : ℕ) → ThroughTwo (divisorOf pclk rate) (divisorTests pclk rate)
+
+-- a tray of boards: 32 bytes for each whole ten of the profiles, then 29
+abbrev pub TrayGoes : Type 0
+TrayGoes = (s : List ℕ) → Through (32 * boardsIn s) (trayOf s) ((29, not (eqb (length s % 10) 0)) ∷ [])
 
 pub record Demand1InC : Type 0 where
   -- V4x7: the check, the decoder, the queries, behind the readers of profile and image
@@ -113,5 +122,6 @@ pub record Demand1InC : Type 0 where
   pub hclk4 : (ahb fpre : ℕ) → ThroughOne (gives (over (whole ahb) (fpreDivisor fpre) .hz)) []
   pub pclk4 : (hclk ppre : ℕ) → Through 2 (twoWords (busWordsOf hclk ppre)) (order4.pclkTests ppre)
   pub doubled4 : (position : ℕ) → ThroughOne (doubledOf position) (wide 32 position)
-  -- the serial divisor of a PCLK and a rate
-  pub serial : (pclk rate : ℕ) → ThroughTwo (divisorOf pclk rate) (divisorTests pclk rate)
+  -- the serial divisor, and a tray
+  pub serial : SerialGoes
+  pub tray : TrayGoes
