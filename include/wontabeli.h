@@ -1,8 +1,8 @@
 /* The clock library's calls for C99 and C++, on x86-64 hosts. The archive (include/archive) is not for the chips.
  *
  * Every call returns a number: 0, or a refusal (WONTABELI_RNG_WITHOUT_USBHS and so on; docs/REFUSALS.md). Of several reasons it returns the first, in
- * a fixed order. wontabeli_refusal_text(number) is its sentence. One call is different: wontabeli_step returns 0 also where the startup ends by 21,
- * 22 or 23, and byte 27 of its place then says so.
+ * a fixed order. wontabeli_refusal_text(number) is its sentence. Two calls are different: wontabeli_step returns 0 also where the startup ends by 21,
+ * 22 or 23, and byte 27 of its place then says so; wontabeli_tray returns 0 also where boards are refused, and their records say so.
  *
  * What a call gives goes into memory that the caller lends, at its start: frequencies as words of 32 bits, records as bytes; a serial divisor and its
  * error as two numbers of their types. After a refusal nothing that was lent is touched; after a call that is not refused, nothing beyond the record is.
@@ -45,6 +45,14 @@ uint8_t wontabeli_decode(const uint8_t *image, size_t image_len, uint32_t hse, u
  * where the PLL that it runs from is not ready. Refused by 32, 31. */
 uint8_t wontabeli_adc(const uint8_t *image, size_t image_len, uint32_t sysclk, uint32_t *out, size_t out_len);
 uint8_t wontabeli_rng(const uint8_t *image, size_t image_len, uint32_t sysclk, uint32_t *out, size_t out_len);
+
+/* ---- CH32V4x7: a tray of boards ---- */
+
+/* Checks the profiles of a tray, which lie back to back, PROFILE_SIZE bytes each. Gives BOARD_SIZE bytes for each, in their order: eight numbers of four
+ * bytes, at the places BOARD_... They are 0 and the seven frequencies that wontabeli_check gives for this profile, or its refusal and seven zeros. A
+ * refused board changes no other's record. There is no limit on how many; of no profiles nothing is written.
+ * Refused by 32 (out_len less than BOARD_SIZE for each whole PROFILE_SIZE of profiles_len), then by 29 (profiles_len not a multiple of PROFILE_SIZE). */
+uint8_t wontabeli_tray(const uint8_t *profiles, size_t profiles_len, uint8_t *out, size_t out_len);
 
 /* ---- CH32V4x7: profiles and images, and their fields, a byte each ----
  *

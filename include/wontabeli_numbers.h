@@ -96,6 +96,9 @@
 #define WONTABELI_V30X_CONFIG_SIZE 18 /* Bytes of a configuration of CH32V30x. */
 #define WONTABELI_V30X_FIELDS_SIZE 9 /* Bytes of register fields of CH32V30x. */
 
+/* The numbers of crates/boards. */
+#define WONTABELI_BOARD_SIZE 32 /* The bytes of a board's record. */
+
 /* The fields of a profile, by their place. */
 #define WONTABELI_PROFILE_HSE_PRESENT 0
 #define WONTABELI_PROFILE_HSE_BYPASS 1
@@ -205,6 +208,16 @@
 #define WONTABELI_V30X_FIELDS_PPRE1 6
 #define WONTABELI_V30X_FIELDS_PPRE2 7
 #define WONTABELI_V30X_FIELDS_HSI_PREDIVIDER 8
+
+/* The places in the record BOARD. */
+#define WONTABELI_BOARD_NUMBER 0
+#define WONTABELI_BOARD_SYSCLK 4
+#define WONTABELI_BOARD_HCLK 8
+#define WONTABELI_BOARD_PCLK1 12
+#define WONTABELI_BOARD_PCLK2 16
+#define WONTABELI_BOARD_PCLK1_TIM 20
+#define WONTABELI_BOARD_PCLK2_TIM 24
+#define WONTABELI_BOARD_ADC 28
 
 /* What the system clock is. */
 #define WONTABELI_SYSTEM_CLOCK_HSI 0

@@ -453,6 +453,91 @@ static void serial(void)
     IS(WONTABELI_BRR_OUT_OF_RANGE, 34);
 }
 
+/* A board of tests/boards.h: the number that the check answers, and its profile. */
+static const struct board { uint8_t number, profile[WONTABELI_PROFILE_SIZE]; } boards[] = {
+#define BOARD(number, ...) {number, {__VA_ARGS__}},
+#include "boards.h"
+};
+
+enum { PROFILE = WONTABELI_PROFILE_SIZE, RECORD = WONTABELI_BOARD_SIZE, KINDS = sizeof boards / sizeof *boards, MOST = 1000 };
+
+/* The record of a board by a check of its profile alone: eight numbers, each with its most significant byte first. A refused check leaves the zeros. */
+static void record_of(const struct board *board, uint8_t *record)
+{
+    uint32_t numbers[1 + WONTABELI_CHECK_WORDS] = {0};
+    int n;
+    numbers[0] = wontabeli_check(board->profile, PROFILE, numbers + 1, WONTABELI_CHECK_WORDS);
+    IS(numbers[0], board->number);
+    for (n = 0; n < RECORD; n++)
+        record[n] = (uint8_t)(numbers[n / 4] >> (24 - 8 * (n % 4)));
+}
+
+/* A tray of so many boards gives what so many checks give, and the bytes beyond stay. */
+static void tray_of(int count)
+{
+    static uint8_t tray[MOST * PROFILE], found[MOST * RECORD + 2], wanted[MOST * RECORD + 2];
+    int n;
+    memset(found, 0xee, sizeof found);
+    memset(wanted, 0xee, sizeof wanted);
+    for (n = 0; n < count; n++) {
+        memcpy(tray + n * PROFILE, boards[n % KINDS].profile, PROFILE);
+        record_of(boards + n % KINDS, wanted + n * RECORD);
+    }
+    IS(wontabeli_tray(tray, (size_t)count * PROFILE, found, (size_t)count * RECORD + 1), 0);
+    for (n = 0; n < count; n++)
+        IS(memcmp(found + n * RECORD, wanted + n * RECORD, RECORD), 0);
+    IS(memcmp(found, wanted, sizeof found), 0);
+}
+
+/* Which refusals the boards have: 1 to 15 and 30, all that a profile of ten bytes can be refused by. */
+static void kinds(void)
+{
+    uint32_t found = 0;
+    int n;
+    for (n = 0; n < KINDS; n++)
+        found |= (uint32_t)1 << boards[n].number;
+    IS(found, 0x4000ffff);
+}
+
+/* So many bytes of profiles and so many lent: how the tray is answered. A refusal leaves every byte. */
+static void tray_lengths(void)
+{
+    static const struct { uint8_t profiles, lent, number; } list[] = {
+        {0, 0, 0}, {0, 96, 0}, {9, 0, WONTABELI_PROFILE_LENGTH}, {10, 0, WONTABELI_OUTPUT_TOO_SHORT}, {10, 31, WONTABELI_OUTPUT_TOO_SHORT},
+        /* 32 comes first */
+        {19, 31, WONTABELI_OUTPUT_TOO_SHORT}, {19, 32, WONTABELI_PROFILE_LENGTH}, {11, 32, WONTABELI_PROFILE_LENGTH},
+        {20, 63, WONTABELI_OUTPUT_TOO_SHORT}, {29, 63, WONTABELI_OUTPUT_TOO_SHORT}, {29, 64, WONTABELI_PROFILE_LENGTH}, {29, 96, WONTABELI_PROFILE_LENGTH}};
+    uint8_t tray[3 * PROFILE] = {0}, lent[3 * RECORD], kept[3 * RECORD];
+    unsigned n;
+    memset(kept, 0xee, sizeof kept);
+    for (n = 0; n < sizeof list / sizeof *list; n++) {
+        memcpy(lent, kept, sizeof lent);
+        IS(wontabeli_tray(tray, list[n].profiles, lent, list[n].lent), list[n].number);
+        IS(memcmp(lent, kept, sizeof lent), 0);
+    }
+}
+
+static void trays(void)
+{
+    /* HSI, AHB by 2, APB1 by 4, APB2 by 16, timers twice their bus, the ADC 20 MHz by 2 x 16 x 8; row A2, refused by 4; row A11 */
+    static const uint8_t tray[3 * PROFILE] = {0, 0, 0, 0, 0, 0x18, 0x04, 0x5e, 0, 0x34, 0x80, 0x13, 0x12, 0xcf, 0xc0, 0x18, 0, 0, 0, 0x34,
+        0, 0, 0, 0, 0, 0x18, 0, 0, 0, 0x34};
+    uint8_t lent[3 * RECORD + 1];
+    memset(lent, 0xee, sizeof lent);
+    IS(wontabeli_tray(tray, sizeof tray, lent, sizeof lent), 0);
+    /* 20,000,000, 10,000,000, 2,500,000, 625,000, 5,000,000, 1,250,000, 78,125 */
+    SAME(lent, 0, 0, 0, 0, 0x01, 0x31, 0x2d, 0x00, 0x00, 0x98, 0x96, 0x80, 0x00, 0x26, 0x25, 0xa0, 0x00, 0x09, 0x89, 0x68, 0x00, 0x4c, 0x4b, 0x40,
+        0x00, 0x13, 0x12, 0xd0, 0x00, 0x01, 0x31, 0x2d);
+    SAME(lent + RECORD, 0, 0, 0, WONTABELI_HSE_OUT_OF_RANGE, 0, 0, 0, 0, 0, 0, 0, 0, 0, 0, 0, 0, 0, 0, 0, 0, 0, 0, 0, 0, 0, 0, 0, 0, 0, 0, 0, 0);
+    /* six times 20,000,000, and 2,500,000 */
+    SAME(lent + 2 * RECORD, 0, 0, 0, 0, 0x01, 0x31, 0x2d, 0x00, 0x01, 0x31, 0x2d, 0x00, 0x01, 0x31, 0x2d, 0x00, 0x01, 0x31, 0x2d, 0x00,
+        0x01, 0x31, 0x2d, 0x00, 0x01, 0x31, 0x2d, 0x00, 0x00, 0x26, 0x25, 0xa0, 0xee);
+    tray_lengths();
+    kinds();
+    tray_of(400);
+    tray_of(MOST);
+}
+
 int main(void)
 {
     profiles();
@@ -467,6 +552,7 @@ int main(void)
     v30x_codes();
     h4();
     serial();
+    trays();
     printf("calls: %d right, %d wrong\n", right, wrong);
     return wrong != 0;
 }

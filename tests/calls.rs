@@ -248,6 +248,49 @@ fn serials() {
     assert_eq!((Refusal::from_number(34), Refusal::from_number(35)), (Some(Refusal::BrrOutOfRange), None));
 }
 
+// The boards of tests/boards.h: the number of each, and its profile.
+fn listed() -> Vec<(u8, Vec<u8>)> {
+    let lines = include_str!("boards.h").lines().filter_map(|line| line.strip_prefix("BOARD(")?.strip_suffix(')'));
+    let board = |line: &str| {
+        let mut words = line.split(", ");
+        let number = words.next().unwrap().parse().unwrap();
+        (number, words.map(|word| u8::from_str_radix(&word[2..], 16).unwrap()).collect())
+    };
+    lines.map(board).collect()
+}
+
+fn trays() {
+    // HSI, AHB by 2, APB1 by 4, APB2 by 16, the ADC by 8; row A2; row A11
+    let profiles = [
+        [0, 0, 0, 0, 0, 0x18, 0x04, 0x5e, 0, 0x34],
+        [0x80, 0x13, 0x12, 0xcf, 0xc0, 0x18, 0, 0, 0, 0x34],
+        [0, 0, 0, 0, 0, 0x18, 0, 0, 0, 0x34],
+    ];
+    let mut lent = [0xee; 3 * BOARD_SIZE + 1];
+    assert_eq!(tray(&profiles.concat(), &mut lent), Ok(()));
+    let apart = Checked { clocks: clocks(20_000_000, 10_000_000, 2_500_000, 625_000, 5_000_000, 1_250_000), adc: 78_125 };
+    let a11 = Checked { clocks: clocks(20_000_000, 20_000_000, 20_000_000, 20_000_000, 20_000_000, 20_000_000), adc: 2_500_000 };
+    assert_eq!(boards(&lent).collect::<Vec<_>>(), [Ok(apart), Err(Refusal::HseOutOfRange), Ok(a11)]);
+    assert_eq!(lent[3 * BOARD_SIZE], 0xee);
+    // numbers that no tray writes
+    assert_eq!(boards(&[1; BOARD_SIZE]).next(), Some(Err(Refusal::CodeNotAllowed)));
+    assert_eq!(boards(&[0; BOARD_SIZE - 1]).next(), None);
+
+    assert_eq!(tray(&[], &mut []), Ok(()));
+    let mut lent = [0xee; BOARD_SIZE];
+    assert_eq!(tray(&profiles.concat()[..19], &mut lent[..31]), Err(Refusal::OutputTooShort));
+    assert_eq!(tray(&profiles.concat()[..19], &mut lent), Err(Refusal::ProfileLength));
+    assert_eq!(lent, [0xee; BOARD_SIZE]);
+
+    let listed = listed();
+    let many: Vec<_> = listed.iter().cycle().take(1_000).collect();
+    let mut lent = vec![0xee; 1_000 * BOARD_SIZE];
+    assert_eq!(tray(&many.iter().flat_map(|board| board.1.clone()).collect::<Vec<_>>(), &mut lent), Ok(()));
+    assert!(boards(&lent).eq(many.iter().map(|board| check(&board.1))));
+    assert!(many.iter().all(|board| check(&board.1).err() == Refusal::from_number(board.0)));
+    assert_eq!((listed.len(), boards(&lent).count()), (22, 1_000));
+}
+
 fn main() {
     profiles();
     images();
@@ -257,5 +300,6 @@ fn main() {
     runs();
     families();
     serials();
+    trays();
     println!("calls: every wrapper of the Rust crate is right");
 }

@@ -556,11 +556,38 @@ static void sentences(void)
     IS(strcmp(wontabeli_refusal_text(255), "No refusal has this number."), 0);
 }
 
+/* The places of a board's record. HSI with AHB by 2, APB1 by 4 and APB2 by 16 has seven frequencies that all differ; the ADC divides by 8 more. */
+static void board_places(void)
+{
+    static const struct { uint8_t place; uint32_t number; } list[] = {
+        {WONTABELI_BOARD_NUMBER, 0}, {WONTABELI_BOARD_SYSCLK, 20 * MHZ}, {WONTABELI_BOARD_HCLK, 10 * MHZ}, {WONTABELI_BOARD_PCLK1, 2500000},
+        {WONTABELI_BOARD_PCLK2, 625000}, {WONTABELI_BOARD_PCLK1_TIM, 5 * MHZ}, {WONTABELI_BOARD_PCLK2_TIM, 1250000}, {WONTABELI_BOARD_ADC, 78125},
+    };
+    uint8_t profile[WONTABELI_PROFILE_SIZE], record[WONTABELI_BOARD_SIZE], four[4];
+    size_t i;
+    fields_with(0);
+    f[WONTABELI_PROFILE_AHB] = WONTABELI_V4X7_AHB_DIV2;
+    f[WONTABELI_PROFILE_APB1] = WONTABELI_APB_DIV4;
+    f[WONTABELI_PROFILE_APB2] = WONTABELI_APB_DIV16;
+    IS(wontabeli_write_profile(f, sizeof f, profile, sizeof profile), 0);
+    IS(wontabeli_tray(profile, sizeof profile, record, sizeof record), 0);
+    EACH(i, list) {
+        frequency(four, list[i].number);
+        IS(memcmp(record + list[i].place, four, sizeof four), 0);
+    }
+    IS(sizeof list / sizeof *list * sizeof four, WONTABELI_BOARD_SIZE);
+    f[WONTABELI_PROFILE_RNG] = WONTABELI_V4X7_RNG_ETH_PLL;
+    IS(wontabeli_write_profile(f, sizeof f, profile, sizeof profile), 0);
+    IS(wontabeli_tray(profile, sizeof profile, record, sizeof record), 0);
+    IS(record[WONTABELI_BOARD_NUMBER + 3], WONTABELI_RNG_WITHOUT_ETH);
+}
+
 int main(void)
 {
     v4x7_divisors();
     v4x7_multipliers();
     v4x7_sources();
+    board_places();
     v1_records();
     v1_fields();
     v30x_records();

@@ -25,6 +25,7 @@ EMPTY(wontabeli_check, const uint8_t *profile, size_t profile_len, uint32_t *out
 EMPTY(wontabeli_decode, const uint8_t *image, size_t image_len, uint32_t hse, uint32_t *out, size_t out_len)
 EMPTY(wontabeli_adc, const uint8_t *image, size_t image_len, uint32_t sysclk, uint32_t *out, size_t out_len)
 EMPTY(wontabeli_rng, const uint8_t *image, size_t image_len, uint32_t sysclk, uint32_t *out, size_t out_len)
+EMPTY(wontabeli_tray, const uint8_t *profiles, size_t profiles_len, uint8_t *out, size_t out_len)
 EMPTY(wontabeli_read_profile, const uint8_t *profile, size_t profile_len, uint8_t *out, size_t out_len)
 EMPTY(wontabeli_write_profile, const uint8_t *fields, size_t fields_len, uint8_t *out, size_t out_len)
 EMPTY(wontabeli_read_image, const uint8_t *image, size_t image_len, uint8_t *out, size_t out_len)

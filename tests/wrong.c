@@ -13,6 +13,7 @@ uint8_t __real_wontabeli_v1_init_fields(uint8_t part, const uint8_t *config, siz
     uint8_t *out, size_t out_len);
 uint8_t __real_wontabeli_v30x_check(const uint8_t *config, size_t config_len, uint32_t *out, size_t out_len);
 uint8_t __real_wontabeli_serial_divisor(uint32_t pclk, uint32_t rate, uint16_t *brr, int32_t *error);
+uint8_t __real_wontabeli_tray(const uint8_t *profiles, size_t profiles_len, uint8_t *out, size_t out_len);
 
 static int mistake(int number)
 {
@@ -109,5 +110,51 @@ uint8_t __wrap_wontabeli_serial_divisor(uint32_t pclk, uint32_t rate, uint16_t *
         *error = -*error;
     if (mistake(17) && number != 0)
         *brr = 0;
+    return number;
+}
+
+/* A record of a tray with a mistake in it, and the record before it. */
+static void wrong_record(uint8_t *record, const uint8_t *before)
+{
+    int n;
+    /* 18: a refused board keeps the frequencies before it; 19: its number in the first byte; 20: the least significant byte first */
+    if (mistake(18) && before && record[WONTABELI_BOARD_NUMBER + 3] != 0)
+        memcpy(record + 4, before + 4, WONTABELI_BOARD_SIZE - 4);
+    if (mistake(19)) {
+        record[0] = record[3];
+        record[3] = 0;
+    }
+    for (n = 0; mistake(20) && n < WONTABELI_BOARD_SIZE; n += 4) {
+        uint8_t four[4];
+        memcpy(four, record + n, 4);
+        record[n] = four[3];
+        record[n + 1] = four[2];
+        record[n + 2] = four[1];
+        record[n + 3] = four[0];
+    }
+}
+
+uint8_t __wrap_wontabeli_tray(const uint8_t *profiles, size_t profiles_len, uint8_t *out, size_t out_len)
+{
+    size_t boards = profiles_len / WONTABELI_PROFILE_SIZE, room = out_len / WONTABELI_BOARD_SIZE, n;
+    uint8_t number;
+    /* 21: 29 before 32; 22: 29 above 400 boards */
+    if ((mistake(21) && profiles_len % WONTABELI_PROFILE_SIZE != 0) || (mistake(22) && boards > 400))
+        return WONTABELI_PROFILE_LENGTH;
+    /* 23: 31 bytes are enough for a board; 24: the boards that have room are served before 32; 25: the whole boards before 29 */
+    if (mistake(23) && boards == 1 && profiles_len == WONTABELI_PROFILE_SIZE && out_len == 31)
+        return 0;
+    if (mistake(24) && room < boards)
+        __real_wontabeli_tray(profiles, room * WONTABELI_PROFILE_SIZE, out, out_len);
+    if (mistake(25) && room >= boards)
+        __real_wontabeli_tray(profiles, boards * WONTABELI_PROFILE_SIZE, out, out_len);
+    number = __real_wontabeli_tray(profiles, profiles_len, out, out_len);
+    for (n = boards; number == 0 && n > 0; n--)
+        wrong_record(out + (n - 1) * WONTABELI_BOARD_SIZE, n > 1 ? out + (n - 2) * WONTABELI_BOARD_SIZE : NULL);
+    /* 26: the bytes beyond cleared; 27: the first refused board ends the tray, and its number is returned */
+    if (mistake(26) && number == 0)
+        memset(out + boards * WONTABELI_BOARD_SIZE, 0, out_len - boards * WONTABELI_BOARD_SIZE);
+    for (n = 0; mistake(27) && number == 0 && n < boards; n++)
+        number = out[n * WONTABELI_BOARD_SIZE + WONTABELI_BOARD_NUMBER + 3];
     return number;
 }

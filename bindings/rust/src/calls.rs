@@ -5,6 +5,8 @@ extern "C" {
     pub fn wontabeli_adc(image: *const u8, image_len: usize, sysclk: u32, out: *mut u32, out_len: usize) -> u8;
     pub fn wontabeli_rng(image: *const u8, image_len: usize, sysclk: u32, out: *mut u32, out_len: usize) -> u8;
 
+    pub fn wontabeli_tray(profiles: *const u8, profiles_len: usize, out: *mut u8, out_len: usize) -> u8;
+
     pub fn wontabeli_read_profile(profile: *const u8, profile_len: usize, out: *mut u8, out_len: usize) -> u8;
     pub fn wontabeli_write_profile(fields: *const u8, fields_len: usize, out: *mut u8, out_len: usize) -> u8;
     pub fn wontabeli_read_image(image: *const u8, image_len: usize, out: *mut u8, out_len: usize) -> u8;

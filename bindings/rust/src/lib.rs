@@ -20,6 +20,7 @@ mod profile;
 mod refusal;
 mod serial;
 mod startup;
+mod tray;
 mod usb;
 mod v4x7;
 
@@ -30,6 +31,7 @@ pub use profile::{read_image, write_image, AdcClockSource, Config, Hse};
 pub use refusal::Refusal;
 pub use serial::{serial_divisor, SerialDivisor};
 pub use startup::{call_bound, waits_owed, Chip, FlashKey, KeyRegister, Reading, Report, Startup};
+pub use tray::{boards, tray};
 pub use v4x7::{adc_frequency, check, decode, rng_source_frequency, Checked};
 
 use core::num::NonZeroU32;

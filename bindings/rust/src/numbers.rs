@@ -96,6 +96,10 @@ pub const V30X_CONFIG_SIZE: usize = 18;
 /// Bytes of register fields of CH32V30x.
 pub const V30X_FIELDS_SIZE: usize = 9;
 
+// The numbers of crates/boards.
+/// The bytes of a board's record.
+pub const BOARD_SIZE: usize = 32;
+
 // The fields of a profile, by their place.
 pub const PROFILE_HSE_PRESENT: usize = 0;
 pub const PROFILE_HSE_BYPASS: usize = 1;
@@ -205,3 +209,13 @@ pub const V30X_FIELDS_HPRE: usize = 5;
 pub const V30X_FIELDS_PPRE1: usize = 6;
 pub const V30X_FIELDS_PPRE2: usize = 7;
 pub const V30X_FIELDS_HSI_PREDIVIDER: usize = 8;
+
+// The places in the record BOARD.
+pub const BOARD_NUMBER: usize = 0;
+pub const BOARD_SYSCLK: usize = 4;
+pub const BOARD_HCLK: usize = 8;
+pub const BOARD_PCLK1: usize = 12;
+pub const BOARD_PCLK2: usize = 16;
+pub const BOARD_PCLK1_TIM: usize = 20;
+pub const BOARD_PCLK2_TIM: usize = 24;
+pub const BOARD_ADC: usize = 28;
