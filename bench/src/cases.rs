@@ -1,6 +1,6 @@
 //! What is measured: for each line of the table our side and the Rust's.
 
-use crate::inputs::{Bad, Good, Inputs, Port, PORTS};
+use crate::inputs::{Bad, Good, Inputs, Port, Tray, BOARDS, PORTS};
 use crate::{ours, theirs};
 use std::panic::catch_unwind;
 
@@ -77,6 +77,23 @@ fn check(profile: &[u8; 10]) {
     keep((ours::check(profile, &mut out), out));
 }
 
+/// A call for a whole tray.
+fn tray(tray: &Tray) -> u32 {
+    each(&[tray], |tray| {
+        let mut out = [[0; 32]; BOARDS];
+        keep((ours::tray(&tray.profiles, &mut out), out));
+    })
+}
+
+/// The Rust has no call for many boards: one check after the other.
+fn checked_tray(tray: &Tray) -> u32 {
+    each(&[tray], |tray| {
+        for config in &tray.configs {
+            keep(theirs::theirs_check(opaque(&config)));
+        }
+    })
+}
+
 fn start(profile: &[u8; 10]) {
     let mut place = [0; 32];
     keep((ours::start(profile, &mut place), place));
@@ -125,6 +142,32 @@ fn checks() -> Vec<Case> {
         Case {
             name: "profile read and check, refused",
             ours: call("wontabeli_check", |i| each(&i.bad, |b| check(&b.profile))),
+            theirs: None,
+        },
+    ]
+}
+
+/// A tray a call, then a board of it a call.
+fn trays() -> Vec<Case> {
+    vec![
+        Case {
+            name: "tray of 400 boards, accepted",
+            ours: call("wontabeli_tray", |i| tray(&i.good_tray)),
+            theirs: Some(call("theirs_check", |i| checked_tray(&i.good_tray))),
+        },
+        Case {
+            name: "tray of 400 boards, refused",
+            ours: call("wontabeli_tray", |i| tray(&i.bad_tray)),
+            theirs: None,
+        },
+        Case {
+            name: "a board of such a tray, accepted",
+            ours: call("wontabeli_tray", |i| tray(&i.good_tray) * BOARDS as u32),
+            theirs: Some(call("theirs_check", |i| checked_tray(&i.good_tray) * BOARDS as u32)),
+        },
+        Case {
+            name: "a board of such a tray, refused",
+            ours: call("wontabeli_tray", |i| tray(&i.bad_tray) * BOARDS as u32),
             theirs: None,
         },
     ]
@@ -243,6 +286,7 @@ fn serials() -> Vec<Case> {
 
 pub fn cases() -> Vec<Case> {
     let mut cases = checks();
+    cases.append(&mut trays());
     cases.append(&mut decodes());
     cases.append(&mut codecs());
     cases.append(&mut startups());

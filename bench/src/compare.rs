@@ -1,6 +1,6 @@
 //! Both sides' answers to every input, which must be the same before anything is measured.
 
-use crate::inputs::{Bad, Good, Inputs, Port, PORTS};
+use crate::inputs::{Bad, Good, Inputs, Port, Profile, Tray, BOARDS, PORTS};
 use crate::{ours, theirs};
 use std::fmt::Debug;
 use std::panic::catch_unwind;
@@ -40,13 +40,16 @@ fn codec(g: &Good) -> bool {
         & same(g.name, "what is written", (Some(profile), Some(image)), written)
 }
 
+/// The seven frequencies by the Rust.
+fn frequencies(g: &Good) -> Vec<u32> {
+    let clocks = theirs::theirs_check(&g.config).numbers();
+    clocks.into_iter().chain(g.adc).collect()
+}
+
 fn good(g: &Good) -> bool {
     let mut out = ours::NONE;
     let number = ours::check(&g.profile, &mut out);
-    let mut checked = theirs::theirs_check(&g.config).numbers().to_vec();
-    // The Rust's check does not give the ADC's frequency. Its query does, over the registers of the running chip.
-    theirs::theirs_startup(&g.config);
-    checked.extend(hal_v4x7::adc());
+    let checked = frequencies(g);
     let mut decoded = ours::NO_CLOCKS;
     let refused = ours::decode(&g.image, g.hse.unwrap_or(0), &mut decoded);
     theirs::theirs_read_and_decode(&g.image, g.hse);
@@ -74,6 +77,24 @@ fn bad(b: &Bad) -> bool {
     same(b.name, "the refusal", number, b.number) & same(b.name, "the panic", b.message, message)
 }
 
+/// The numbers of a board's record: the Rust's frequencies where its profile is accepted, the listed refusal where not.
+fn record(inputs: &Inputs, profile: &Profile) -> Vec<u32> {
+    let accepted = inputs.good.iter().find(|g| g.profile == *profile);
+    let refused = inputs.bad.iter().find(|b| b.profile == *profile);
+    let number = refused.map_or(0, |b| u32::from(b.number));
+    let frequencies = accepted.map_or(vec![0; 7], frequencies);
+    [vec![number], frequencies].concat()
+}
+
+/// Every board of a tray.
+fn tray(inputs: &Inputs, tray: &Tray) -> bool {
+    let mut out = [[0; 32]; BOARDS];
+    let number = ours::tray(&tray.profiles, &mut out);
+    let found: Vec<_> = out.iter().map(ours::board).collect();
+    let wanted = tray.profiles.iter().map(|profile| record(inputs, profile)).collect();
+    same("400 boards", "the tray", (number, found), (0, wanted))
+}
+
 /// The Rust has no serial divisors: ours is held to the answers worked by hand.
 fn port(p: &Port) -> bool {
     let is = ours::serial(p.pclk, p.rate);
@@ -88,5 +109,6 @@ pub fn same_answers(inputs: &Inputs) -> bool {
     let good = inputs.good.iter().filter(|g| !good(g)).count();
     let bad = inputs.bad.iter().filter(|b| !bad(b)).count();
     let ports = PORTS.iter().filter(|p| !port(p)).count();
-    good + bad + ports == 0
+    let trays = tray(inputs, &inputs.good_tray) & tray(inputs, &inputs.bad_tray);
+    trays && good + bad + ports == 0
 }

@@ -84,6 +84,8 @@ pub struct Good {
     pub bytes: [u8; CONFIG],
     pub config: Config,
     pub hse: Option<u32>,
+    /// The ADC's frequency: the Rust's check does not give it, but its query does, over the registers of the running chip.
+    pub adc: Option<u32>,
     pub image: [u8; 8],
     pub fields: [u8; FIELDS],
     /// The bytes and the fields with the filling behind them, as our calls take them.
@@ -102,9 +104,20 @@ pub struct Bad {
     pub message: &'static str,
 }
 
+/// The boards of a tray.
+pub const BOARDS: usize = 400;
+
+/// A tray, the accepted or the refused boards in turn: as both sides take it.
+pub struct Tray {
+    pub profiles: Vec<Profile>,
+    pub configs: Vec<Config>,
+}
+
 pub struct Inputs {
     pub good: Vec<Good>,
     pub bad: Vec<Bad>,
+    pub good_tray: Tray,
+    pub bad_tray: Tray,
 }
 
 fn bytes_of(profile: &Profile) -> [u8; CONFIG] {
@@ -121,6 +134,15 @@ fn before(profile: &Profile, step: u8) -> Place {
     }
     assert!(number == 0, "the startup is refused by {}", number);
     place
+}
+
+fn tray(profiles: &[Profile]) -> Tray {
+    let profiles: Vec<Profile> = profiles.iter().copied().cycle().take(BOARDS).collect();
+    let configs = profiles.iter().map(|profile| theirs::config_of(&bytes_of(profile)));
+    Tray {
+        configs: configs.collect(),
+        profiles,
+    }
 }
 
 /// The filling, zero, behind the fields.
@@ -142,6 +164,7 @@ fn good(name: &'static str, profile: Profile) -> Good {
         bytes,
         config,
         hse: config.hse.map(|hse| hse.freq.0),
+        adc: hal_v4x7::adc(),
         image: theirs::theirs_write_image(&fields).expect("fields within their widths"),
         fields,
         profile_fields: filled(&bytes),
@@ -162,5 +185,7 @@ pub fn inputs() -> Inputs {
     Inputs {
         good: ACCEPTED.iter().map(|(name, profile)| good(name, *profile)).collect(),
         bad: REFUSED.iter().map(bad).collect(),
+        good_tray: tray(&ACCEPTED.map(|(_, profile)| profile)),
+        bad_tray: tray(&REFUSED.map(|(_, profile, ..)| profile)),
     }
 }

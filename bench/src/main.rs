@@ -17,13 +17,15 @@ use std::process::exit;
 
 const USAGE: &str = "usage: bench same                    status 1 where the two sides' answers differ
        bench calls                   every call of the table, for callgrind to count
-       bench table COUNTS            the table, from callgrind's files COUNTS.1, COUNTS.2, .., and nanoseconds, measured now
-       bench ratios COUNTS DOCUMENT  status 1 where a ratio of instructions is not the document's
-       bench ours COUNTS DOCUMENT    status 1 where our instructions are not the document's";
+       bench table COUNTS            the table, from callgrind's files COUNTS.1, COUNTS.2, .., and nanoseconds, measured now; then whether a tray
+                                     keeps within its instructions
+       bench ratios COUNTS DOCUMENT  status 1 where a ratio of instructions is not the document's, or a tray takes more than it may
+       bench ours COUNTS DOCUMENT    status 1 where our instructions are not the document's, or a tray takes more than it may";
 
 fn agrees(counts: &str, path: &str, inputs: &Inputs, held: table::Held) -> Result<bool, String> {
     let document = std::fs::read_to_string(path).map_err(|error| format!("{}: {}", path, error))?;
-    Ok(table::agrees(&table::lines(counts, inputs, false)?, &document, held))
+    let lines = table::lines(counts, inputs, false)?;
+    Ok(table::agrees(&lines, &document, held) & table::budgets_kept(&lines))
 }
 
 /// Whether all is as it should be.
@@ -35,7 +37,9 @@ fn run(words: &[&str], inputs: &Inputs) -> Result<bool, String> {
             Ok(true)
         }
         ["table", counts] => {
-            table::print(&table::lines(counts, inputs, true)?);
+            let lines = table::lines(counts, inputs, true)?;
+            table::print(&lines);
+            table::print_budgets(&lines);
             Ok(true)
         }
         ["ratios", counts, path] => agrees(counts, path, inputs, table::RATIO),

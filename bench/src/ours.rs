@@ -2,6 +2,7 @@
 
 extern "C" {
     fn wontabeli_check(profile: *const u8, profile_len: usize, out: *mut u32, out_len: usize) -> u8;
+    fn wontabeli_tray(profiles: *const u8, profiles_len: usize, out: *mut u8, out_len: usize) -> u8;
     fn wontabeli_decode(image: *const u8, image_len: usize, hse: u32, out: *mut u32, out_len: usize) -> u8;
     fn wontabeli_read_profile(profile: *const u8, profile_len: usize, out: *mut u8, out_len: usize) -> u8;
     fn wontabeli_write_profile(fields: *const u8, fields_len: usize, out: *mut u8, out_len: usize) -> u8;
@@ -20,6 +21,8 @@ extern "C" {
 }
 
 pub type Checked = [u32; 7];
+/// The record of a board: the refusal number or 0, and the frequencies, four bytes each.
+pub type Board = [u8; 32];
 pub type Decoded = [u32; 6];
 pub type Place = [u8; 32];
 /// The fields one a byte, the filling last.
@@ -46,6 +49,26 @@ pub fn numbers(out: &[u32]) -> Vec<u32> {
 #[inline]
 pub fn check(profile: &[u8; 10], out: &mut Checked) -> u8 {
     unsafe { wontabeli_check(profile.as_ptr(), profile.len(), out.as_mut_ptr(), out.len()) }
+}
+
+#[inline]
+pub fn tray(profiles: &[[u8; 10]], out: &mut [Board]) -> u8 {
+    unsafe {
+        wontabeli_tray(
+            profiles.as_ptr().cast(),
+            profiles.len() * 10,
+            out.as_mut_ptr().cast(),
+            out.len() * 32,
+        )
+    }
+}
+
+/// The numbers of a board's record.
+pub fn board(record: &Board) -> Vec<u32> {
+    record
+        .chunks(4)
+        .map(|four| four.iter().fold(0, |number, byte| number << 8 | u32::from(*byte)))
+        .collect()
 }
 
 #[inline]

@@ -2,7 +2,7 @@
 
 use crate::callgrind::Counts;
 use crate::cases::{cases, measured, Case, Half};
-use crate::inputs::Inputs;
+use crate::inputs::{Inputs, BOARDS};
 use std::time::Instant;
 
 const HEAD: &str = "| work, a call | ours, instructions | the Rust's | ratio | ours, ns | the Rust's, ns | ratio |";
@@ -89,6 +89,53 @@ pub fn print(lines: &[Line]) {
             columns(line.nanoseconds)
         );
     }
+}
+
+/// A tray's line, and the line of a call for one of its boards.
+const TRAYS: [(&str, &str); 2] = [
+    (
+        "tray of 400 boards, accepted",
+        "profile read and check, accepted (oracle)",
+    ),
+    ("tray of 400 boards, refused", "profile read and check, refused"),
+];
+/// What a board of a tray may take beside its read and check.
+const BESIDE: f64 = 100.0;
+
+/// Whether a tray takes no more than its boards may, in a sentence and as a yes or no.
+fn budgets(lines: &[Line]) -> Vec<(String, bool)> {
+    let ours = |name: &str| {
+        let line = lines.iter().find(|line| line.name == name);
+        line.and_then(|line| line.instructions[0]).expect("a line of the table")
+    };
+    let budget = |(tray, one): &(&str, &str)| {
+        let (whole, one) = (ours(tray), ours(one));
+        let most = BOARDS as f64 * (one + BESIDE);
+        let word = if whole <= most { "within" } else { "MORE THAN" };
+        let sentence = format!(
+            "{}: {:.0}, {} {} x ({:.0} + {:.0}), which is {:.0}.",
+            tray, whole, word, BOARDS, one, BESIDE, most
+        );
+        (sentence, whole <= most)
+    };
+    TRAYS.iter().map(budget).collect()
+}
+
+/// The sentences, below the table.
+pub fn print_budgets(lines: &[Line]) {
+    println!();
+    for (sentence, _) in budgets(lines) {
+        println!("{}", sentence);
+    }
+}
+
+/// Whether each is kept; where not, its sentence says so.
+pub fn budgets_kept(lines: &[Line]) -> bool {
+    let missed: Vec<_> = budgets(lines).into_iter().filter(|(_, kept)| !kept).collect();
+    for (sentence, _) in &missed {
+        eprintln!("bench: {}", sentence);
+    }
+    missed.is_empty()
 }
 
 /// A line of a document's table, cell by cell.
