@@ -14,6 +14,9 @@ pub const V30X_CONFIG: usize = 18;
 pub const V30X_FIELDS: usize = 9;
 /// The longest profile, image or lent output that a query can hold.
 pub const LENT: usize = 32;
+/// The longest row of profiles, and the longest lent output, that a tray's query can hold.
+pub const TRAY_IN: usize = 120;
+pub const TRAY_OUT: usize = 448;
 /// Segments of a startup's script.
 pub const SEGMENTS: usize = 13;
 
@@ -48,9 +51,11 @@ pub const H4_PCLK: u8 = 0x32;
 pub const H4_MUL: u8 = 0x33;
 pub const SERIAL: u8 = 0x40;
 pub const PORT: u8 = 0x41;
+pub const BOARD: u8 = 0x42;
+pub const TRAY: u8 = 0x43;
 
 /// Each kind, its name, and the refusals that document 01, or 02, gives it.
-pub const KINDS: [(u8, &str, &[u8]); 31] = [
+pub const KINDS: [(u8, &str, &[u8]); 33] = [
     (
         CHECK,
         "V4x7 check",
@@ -90,6 +95,9 @@ pub const KINDS: [(u8, &str, &[u8]); 31] = [
     (H4_MUL, "H4 multiplier", &[28]),
     (SERIAL, "serial divisor", &[33, 34]),
     (PORT, "serial divisor, a port", &[28, 33, 34]),
+    // a board's refusals stand in its record
+    (BOARD, "a board", &[]),
+    (TRAY, "a tray of boards", &[29, 32]),
 ];
 
 pub fn name_of(kind: u8) -> &'static str {

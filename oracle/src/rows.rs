@@ -1,10 +1,12 @@
 //! Document 01's rows A1 to A11, and the Rust's own named configurations, asked of the Rust.
 
 use crate::answer::{answer, Excluding};
-use crate::gen::config::{set_frequency, DEFAULT};
+use crate::gen::boards::{refused, REFUSALS};
+use crate::gen::config::with;
 use crate::gen::family::named_check;
 use crate::gen::good::GOOD;
 use crate::paper::layout::config_of;
+use crate::paper::profile::clocks;
 use crate::record::*;
 use crate::rust::checked;
 
@@ -17,18 +19,6 @@ enum Want {
     Is(&'static [(usize, u32)]),
 }
 use Want::{Is, Refused};
-
-/// The default of row A11, changed.
-fn with(hse: u32, changes: &[(usize, u8)]) -> [u8; CONFIG] {
-    let mut config = DEFAULT;
-    if hse != 0 {
-        set_frequency(&mut config, hse);
-    }
-    for (at, value) in changes {
-        config[*at] = *value;
-    }
-    config
-}
 
 const SYS: usize = 6;
 const FROM_HSE: usize = 7;
@@ -131,9 +121,22 @@ fn named_run() -> bool {
     right
 }
 
+/// Whether each board that the generator takes for refused is refused by its number.
+fn refused_run() -> bool {
+    let mut right = true;
+    for number in REFUSALS {
+        let told = clocks(&refused(number));
+        if told != Err(number) {
+            println!("the board for refusal {} is answered {:?}", number, told);
+            right = false;
+        }
+    }
+    right
+}
+
 /// Whether the Rust gives every row and what its named configurations say, and accepts every configuration that the generator takes for good.
 pub fn run() -> Result<bool, String> {
-    let mut right = named_run();
+    let mut right = named_run() & refused_run();
     for Row(name, config, want) in rows() {
         let a = answer(&query(CHECK, &[&config]), Excluding { listed: true }).0;
         let fits = match want {

@@ -1,5 +1,4 @@
 // The profile and image readers and writers.
-ghost use Prim.Native.Nat.{_≤_};
 use crate::query;
 use crate::reply;
 use answer::Outcome;
@@ -11,13 +10,6 @@ use v4x7::Config;
 use v4x7::HsPll;
 use v4x7::Hse;
 use v4x7::Pll;
-
-// A length of at most 32.
-fn length(x: u8) -> usize
-    ensures { λ r. ⌜ r ≤ 32 ⌝ }
-{
-    if x < 32 { x as usize } else { 32 }
-}
 
 fn put_hse(a: [u8; 64], hse: Hse) -> [u8; 64] {
     match hse {
@@ -73,7 +65,7 @@ fn put_config(a: [u8; 64], c: Config) -> [u8; 64] {
 }
 
 pub fn read_profile(q: &[u8; 128]) -> [u8; 64] {
-    let n = length(q[1]);
+    let n = query::length(32, 0, q[1]);
     let bytes = query::part(q, 2);
     match profile::read_profile(&bytes[..n]) {
         ReadProfile::Refused(n) => reply::empty(7, n),
@@ -81,13 +73,17 @@ pub fn read_profile(q: &[u8; 128]) -> [u8; 64] {
     }
 }
 
-// The answer of a write, and the lent bytes afterwards.
-fn written(kind: u8, outcome: Outcome, lent: [u8; 32], n: usize) -> [u8; 64] {
-    let number = match outcome {
+// The number of a write that is refused, or 0.
+pub fn number(outcome: Outcome) -> u8 {
+    match outcome {
         Outcome::Done => 0,
         Outcome::Refused(n) => n,
-    };
-    let mut a = reply::empty(kind, number);
+    }
+}
+
+// The answer of a write, and the lent bytes afterwards.
+pub fn written(kind: u8, outcome: Outcome, lent: [u8; 32], n: usize) -> [u8; 64] {
+    let mut a = reply::empty(kind, number(outcome));
     let mut i = 0;
     while i < 32 {
         if i < n {
@@ -99,7 +95,7 @@ fn written(kind: u8, outcome: Outcome, lent: [u8; 32], n: usize) -> [u8; 64] {
 }
 
 pub fn write_profile(q: &[u8; 128]) -> [u8; 64] {
-    let n = length(q[24]);
+    let n = query::length(32, 0, q[24]);
     let mut lent = [q[25]; 32];
     let outcome = profile::write_profile(query::config(q), &mut lent[..n]);
     written(8, outcome, lent, n)
@@ -155,7 +151,7 @@ fn put_fields(a: [u8; 64], f: Fields) -> [u8; 64] {
 }
 
 pub fn read_image(q: &[u8; 128]) -> [u8; 64] {
-    let n = length(q[1]);
+    let n = query::length(32, 0, q[1]);
     let bytes = query::part(q, 2);
     match image::read_image(&bytes[..n]) {
         ReadImage::Refused(n) => reply::empty(9, n),
@@ -164,7 +160,7 @@ pub fn read_image(q: &[u8; 128]) -> [u8; 64] {
 }
 
 pub fn write_image(q: &[u8; 128]) -> [u8; 64] {
-    let n = length(q[34]);
+    let n = query::length(32, 0, q[34]);
     let mut lent = [q[35]; 32];
     let outcome = image::write_image(query::fields(q, 1), &mut lent[..n]);
     written(10, outcome, lent, n)

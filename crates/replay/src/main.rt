@@ -6,6 +6,7 @@ mod power;
 mod query;
 mod reply;
 mod rules;
+mod trays;
 mod v4;
 
 fn answer(q: &[u8; 128]) -> [u8; 64] {
@@ -24,6 +25,8 @@ fn answer(q: &[u8; 128]) -> [u8; 64] {
         0x0b | 0x0c => power::owed(kind, q),
         0x0d | 0x0e | 0x0f | 0x28 => rules::answer(kind, q),
         0x40 | 0x41 => brr::answer(kind, q),
+        0x42 => trays::board(q),
+        0x43 => trays::tray(q),
         _ => families::answer(kind, q),
     }
 }

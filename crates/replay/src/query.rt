@@ -1,5 +1,5 @@
 // The parts of a query.
-ghost use Prim.Native.Nat.{_<_};
+ghost use Prim.Native.Nat.{_<_, _≤_};
 use image::Cfgr0;
 use image::Cfgr2;
 use image::Cfgr3;
@@ -45,6 +45,14 @@ pub fn word(q: &[u8; 128], at: usize) -> u32 {
         return 0;
     }
     word_of(q[at], q[at + 1], q[at + 2], q[at + 3])
+}
+
+// A length of two bytes; one above the limit counts as the limit.
+pub fn length(limit: usize, high: u8, low: u8) -> usize
+    ensures { λ r. ⌜ r ≤ limit ⌝ }
+{
+    let n = word_of(0, 0, high, low) as usize;
+    if n < limit { n } else { limit }
 }
 
 fn hse_of(x: [u8; 33]) -> Hse {

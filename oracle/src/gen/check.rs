@@ -129,14 +129,7 @@ const AT_LIMITS: [(u32, &[(usize, u8)]); 21] = [
 pub const EDGES: usize = AT_LIMITS.len();
 pub fn edges(i: usize) -> Query {
     let (hse, changes) = AT_LIMITS[i];
-    let mut c = DEFAULT;
-    if hse != 0 {
-        set_frequency(&mut c, hse);
-    }
-    for (at, code) in changes {
-        c[*at] = *code;
-    }
-    query(CHECK, &[&c])
+    query(CHECK, &[&config::with(hse, changes)])
 }
 
 pub fn random(r: &mut Random) -> Query {

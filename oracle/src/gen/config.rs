@@ -38,6 +38,18 @@ pub fn set_frequency(config: &mut [u8; CONFIG], frequency: u32) {
     config[2..6].copy_from_slice(&frequency.to_be_bytes());
 }
 
+/// Row A11 with an HSE (0: none) and some bytes changed.
+pub fn with(hse: u32, changes: &[(usize, u8)]) -> [u8; CONFIG] {
+    let mut config = DEFAULT;
+    if hse != 0 {
+        set_frequency(&mut config, hse);
+    }
+    for (at, value) in changes {
+        config[*at] = *value;
+    }
+    config
+}
+
 /// An HSE at which the PLL's output, HCLK or the ADC's frequency of this configuration is at its limit.
 fn at_limit(r: &mut Random, config: &[u8; CONFIG]) -> u32 {
     let tries: Vec<u32> = (0..6).map(|_| one_limit(r, config)).collect();

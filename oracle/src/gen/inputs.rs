@@ -6,7 +6,8 @@ use super::good::GOOD;
 use super::random::{Digits, Random};
 use super::serial::RATES;
 use crate::paper::layout::profile_of;
-use crate::paper::text::{PORT, PORTS, PROFILE};
+use crate::paper::profile::PROFILE;
+use crate::paper::text::{PORT, PORTS};
 use crate::rust::checked;
 
 pub type Input = Vec<u8>;

@@ -1,5 +1,6 @@
 //! The queries of a run: every combination first where that can be had, then random ones; the same from the same seed.
 
+pub mod boards;
 mod check;
 mod codec;
 pub mod config;
@@ -20,7 +21,7 @@ use random::Random;
 /// A set of all combinations of something: how many, how many of them the recorded list takes, and each by its place.
 type Set = (usize, usize, fn(usize) -> Query);
 
-const SETS: [Set; 45] = [
+const SETS: [Set; 51] = [
     (check::DIVIDERS, 90, check::dividers),
     (check::MULTIPLIERS, 90, check::multipliers),
     (check::LIMITS, 180, check::limits),
@@ -65,6 +66,12 @@ const SETS: [Set; 45] = [
     (serial::HALVES, serial::HALVES, serial::halves),
     (serial::ENDS, serial::ENDS, serial::ends),
     (serial::PORTS, serial::PORTS, serial::ports),
+    (boards::BOARDS, boards::BOARDS, boards::boards),
+    (boards::LENGTHS, boards::LENGTHS, boards::lengths),
+    (boards::COMPETING, boards::COMPETING, boards::competing),
+    (boards::WINDOWS, boards::WINDOWS, boards::windows),
+    (boards::AMONG, boards::AMONG, boards::among),
+    (boards::SIZES, 0, boards::sizes),
     (fields::SELECTIONS, 400, fields::selections),
 ];
 
@@ -116,9 +123,10 @@ impl Iterator for Queries {
             self.at = 0;
         }
         if self.set == SETS.len() {
-            // One in 32 is a serial divisor.
+            // One in 32 is a serial divisor, and one a board or a tray.
             return Some(match self.left % 32 {
                 0 => serial::random(&mut self.random),
+                16 => boards::random(&mut self.random),
                 _ => random_query(&mut self.random),
             });
         }

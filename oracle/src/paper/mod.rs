@@ -5,9 +5,11 @@ pub mod call;
 pub mod codec;
 pub mod codes;
 pub mod layout;
+pub mod profile;
 mod rules;
 pub mod serial;
 pub mod text;
+pub mod tray;
 
 use crate::record::*;
 use crate::rust::startup;
@@ -23,6 +25,7 @@ pub fn alone(q: &Query) -> Option<Answer> {
         READ_IMAGE => Some(codec::read_image(q)),
         WRITE_IMAGE => Some(codec::write_image(q)),
         SERIAL | PORT => Some(serial::answer(q)),
+        BOARD | TRAY => Some(tray::answer(q)),
         kind if !codes::allowed(q) => Some(refused(kind, 28)),
         _ => None,
     }

@@ -1,31 +1,20 @@
 //! What the program writes for a whole input: a profile, and up to eight ports (document 02, K1). The seven numbers are the Rust's.
 
-use super::{codec, serial};
-use crate::record::*;
-use crate::rust;
+use super::profile::{clocks, PROFILE};
+use super::serial;
+use crate::record::number;
 
 const NAMES: [&str; 7] = ["sysclk", "hclk", "pclk1", "pclk2", "pclk1_tim", "pclk2_tim", "adc"];
-/// The most ports, and the bytes of a profile and of a port.
+/// The most ports, and the bytes of a port.
 pub const PORTS: usize = 8;
-pub const PROFILE: usize = 10;
 pub const PORT: usize = 5;
 
-/// "Any other length is 29"; then what the profile's reader and the check refuse by; else the six clocks and the ADC, four bytes each.
-fn clocks(input: &[u8]) -> Result<[u8; 28], u8> {
+/// "Any other length is 29"; then what the profile is refused by.
+fn sized(input: &[u8]) -> Result<[u8; 28], u8> {
     if !(0..=PORTS).any(|ports| input.len() == PROFILE + PORT * ports) {
         return Err(29);
     }
-    let read = codec::read_profile(&query(READ_PROFILE, &[&[PROFILE as u8], &input[..PROFILE]]));
-    if read[1] != 0 {
-        return Err(read[1]);
-    }
-    let checked = rust::answer(&query(CHECK, &[&read[2..2 + CONFIG]]));
-    if checked[1] != 0 {
-        return Err(checked[1]);
-    }
-    let mut clocks = [0; 28];
-    clocks.copy_from_slice(&checked[2..30]);
-    Ok(clocks)
+    clocks(&input[..PROFILE])
 }
 
 /// "Each adds one line, in order, as `brr 174 error -44800` or `refused 33`."
@@ -37,7 +26,7 @@ fn line(clocks: &[u8], port: &[u8]) -> String {
 }
 
 pub fn text(input: &[u8]) -> String {
-    let clocks = match clocks(input) {
+    let clocks = match sized(input) {
         Ok(clocks) => clocks,
         Err(number) => return format!("refused {}\n", number),
     };
