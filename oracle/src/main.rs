@@ -12,11 +12,12 @@ mod rows;
 mod rust;
 mod summary;
 mod texts;
+mod trays;
 
 use std::process::exit;
 
 const USAGE: &str = "usage: oracle compare SEED COUNT PROGRAM | list FILE PROGRAM | query HEX PROGRAM | texts SEED COUNT PROGRAM | \
-                     record SEED CRATES | check SEED CRATES | answer | tell | rows\n       --listed after it: listed differences are not left out (the Rust's own answer to one, and the test of the comparison)";
+                     trays SEED COUNT PROGRAM | record SEED CRATES | check SEED CRATES | answer | tell | serve | rows\n       --listed after it: listed differences are not left out (the Rust's own answer to one, and the test of the comparison)";
 
 fn main() {
     panics::note_panics();
@@ -32,10 +33,12 @@ fn main() {
         ["list", path, program] => compare::list(path, program, excluding),
         ["query", query, program] => compare::one(query, program, excluding),
         ["texts", seed, count, program] => texts::run(number(seed), number(count) as usize, program),
+        ["trays", seed, count, program] => trays::run(number(seed), number(count) as usize, program),
         ["record", seed, dir] => lists::write(number(seed), dir),
         ["check", seed, dir] => lists::check(number(seed), dir),
         ["answer"] => lists::answer_stdin(excluding),
         ["tell"] => texts::tell_stdin(),
+        ["serve"] => trays::serve_stdin(),
         ["rows"] => rows::run(),
         _ => Err(USAGE.to_string()),
     };

@@ -13,6 +13,7 @@ pub mod random;
 mod rules;
 pub mod serial;
 pub mod startup;
+pub mod trays;
 mod wide;
 
 use crate::record::Query;

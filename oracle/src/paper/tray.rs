@@ -1,10 +1,12 @@
-//! Boards and trays of them (document 02, K2). The seven numbers are the Rust's.
+//! Trays of boards (document 02, K2), in a query and as the program `tray` answers them. The seven numbers are the Rust's.
 
 use super::profile::{clocks, PROFILE};
 use crate::record::*;
 
 /// "Writes 32 bytes each".
 pub const RECORD: usize = 32;
+/// What the program lends the call as output.
+const OUTPUT: usize = 65_536;
 
 pub fn answer(q: &Query) -> Answer {
     match q[0] {
@@ -58,4 +60,13 @@ fn shown(q: &Query) -> Answer {
     let mut a = accepted(TRAY, &[&window]);
     a[1] = number;
     a
+}
+
+/// What the program writes: the records, or the line of a refusal.
+pub fn output(input: &[u8]) -> Vec<u8> {
+    let mut out = vec![0; OUTPUT];
+    match tray(input, &mut out) {
+        0 => out[..input.len() / PROFILE * RECORD].to_vec(),
+        number => format!("refused {}\n", number).into_bytes(),
+    }
 }
