@@ -1,3 +1,4 @@
 pub mod Place
 pub mod Hosted
 pub mod First
+pub mod Boards
