@@ -10,8 +10,6 @@ ghost use Rattle.boards.specs.Tray.{numbersOf, inFours, boardOf, boardsI
 use answer::Outcome;
 use v4x7::Checked;
 
-// The bytes of a profile.
-pub const PROFILE: usize = 10;
 // The bytes of a board's record.
 pub const RECORD: usize = 32;
 
@@ -73,17 +71,17 @@ pub fn board(profile: &[u8]) -> [u8; 32]
 pub fn tray(profiles: &[u8], out: &mut [u8]) -> Outcome
     ensures { λ r. ⌜ Wrote (32 * boardsIn (now (profiles .entry))) (trayOf (now (profiles .entry))) (now (out .entry)) (now (out .exit)) r ⌝ }
 {
-    let boards = profiles.len() / PROFILE;
+    let boards = profiles.len() / profile::SIZE;
     if out.len() / RECORD < boards {
         return Outcome::Refused(answer::OUTPUT_TOO_SHORT);
     }
-    if profiles.len() % PROFILE != 0 {
+    if profiles.len() % profile::SIZE != 0 {
         return Outcome::Refused(answer::PROFILE_LENGTH);
     }
     let mut i = 0;
     while i < boards {
-        let at = i * PROFILE;
-        let checked = profile::check_profile(&profiles[at..at + PROFILE]);
+        let at = i * profile::SIZE;
+        let checked = profile::check_profile(&profiles[at..at + profile::SIZE]);
         put_record(out, i * RECORD, numbers(checked));
         i += 1;
     }

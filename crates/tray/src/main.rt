@@ -17,7 +17,7 @@ fn answer(profiles: &[u8]) -> bool {
     let mut out = io::large_buffer();
     match boards::tray(profiles, &mut out) {
         Outcome::Done => {
-            let n = profiles.len() / boards::PROFILE * boards::RECORD;
+            let n = profiles.len() / profile::SIZE * boards::RECORD;
             io::write_all(1, &out[..n])
         }
         Outcome::Refused(n) => refuse(n),
