@@ -1,19 +1,19 @@
 -- Runs of bytes stored one behind another: what is still to be stored, from turn to turn of a loop. Assumes nothing.
 use Prim.Native.Nat.{ℕ, suc, _+_, _-_, _*_, _/_, _%_, _<_, _≤_}
-use mathlib.Core.Path.{_≡_, refl, sym, ap, _∙_}
+use mathlib.Core.Path.{_≡_, sym, ap, _∙_}
 use mathlib.Core.List.{List, [], _∷_, _++_, append-nil}
 use native.Mathlib.Nat.{add-zero, zero-add, suc-add, add-suc}
 use native.Mathlib.Omega.{arith}
 use lib.ListN.{length, set, getD, take, drop}
-use borrow.Author.Tests.{lt-ltb, le-ltb, ne-eqb}
+use borrow.Author.Tests.{ne-eqb}
 use lib.Seq.{sets, sets-eq, drop-cons, drop-drop, drop-length}
 use Rattle.answer.specs.Answer.{Answer}
 use Rattle.v4x7.specs.declared.ClockRecord.{ClockRecord}
 use Rattle.profile.specs.Profile.{checkProfile}
 use Rattle.layout.specs.Layout.{unpack, bytes}
-use Rattle.layout.specs.Lent.{Wrote}
+use Rattle.layout.proofs.Writing.{short, refused, written-to}
 use Rattle.answer.specs.declared.Outcome.the-variants.{Done, Refused}
-use Rattle.boards.specs.Tray.{numbersOf, inFours, boardOf, boardsIn, recordsOf, trayOf}
+use Rattle.boards.specs.Tray.{numbersOf, inFours, boardOf, boardsIn, recordsOf, trayOf, Trayed}
 use Rattle.boards.specs.Laws.{board-length, records-length}
 
 -- one run, and another behind it
@@ -71,20 +71,16 @@ boards-stored out g s n i h p = let e : n - i ≡ 0 = omega arith in rw e at p
 
 -- a tray, by the way that its call took
 module _ (s l : List ℕ) where
-  pub short : length l / 32 < boardsIn s → Wrote (32 * boardsIn s) (trayOf s) l l (Refused 32)
-  short h = let t = lt-ltb (length l) (32 * boardsIn s) (omega arith) in record { answer = rw t; bytes = rw t }
+  pub too-short : length l / 32 < boardsIn s → Trayed s l l (Refused 32)
+  too-short h = short (32 * boardsIn s) (trayOf s) l (omega arith)
 
-  pub cut : boardsIn s ≤ length l / 32 → (length s % 10 ≡ 0 → ⊥) → Wrote (32 * boardsIn s) (trayOf s) l l (Refused 29)
+  pub uneven : boardsIn s ≤ length l / 32 → (length s % 10 ≡ 0 → ⊥) → Trayed s l l (Refused 29)
   unfolding trayOf
-  cut h e =
-      let t = le-ltb (length l) (32 * boardsIn s) (omega arith) in
-      let u = ne-eqb (length s % 10) 0 e in
-      record { answer = rw (t, u); bytes = rw (t, u) }
+  uneven h e = refused (32 * boardsIn s) (trayOf s) l 29 (omega arith) (rw (ne-eqb (length s % 10) 0 e))
 
-  pub served : {l′ : List ℕ} → boardsIn s ≤ length l / 32 → length s % 10 ≡ 0 → l′ ≡ sets l 0 (recordsOf (boardsIn s) s) →
-      Wrote (32 * boardsIn s) (trayOf s) l l′ Done
+  pub served : {l′ : List ℕ} → boardsIn s ≤ length l / 32 → length s % 10 ≡ 0 → l′ ≡ sets l 0 (recordsOf (boardsIn s) s) → Trayed s l l′ Done
   unfolding trayOf
   served h e q =
-      let t = le-ltb (length l) (32 * boardsIn s) (omega arith) in
       let size = records-length (boardsIn s) s in
-      record { answer = rw (t, e); bytes = rw (t, e) (q ∙ sets-eq (recordsOf (boardsIn s) s) l 0 (omega arith) ∙ rw (zero-add, size)) }
+      rw (q, sets-eq (recordsOf (boardsIn s) s) l 0 (omega arith), zero-add, size)
+      (written-to (32 * boardsIn s) (trayOf s) l (recordsOf (boardsIn s) s) (omega arith) (rw e))

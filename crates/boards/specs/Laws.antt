@@ -6,16 +6,19 @@ use mathlib.Core.Bool.{Bool, true, false, not}
 use mathlib.Core.List.{List, [], _∷_, _++_, append-nil, append-assoc}
 use native.Mathlib.Nat.{zero-add}
 use native.Mathlib.Omega.{arith}
-use lib.Dec.{eqb}
+use borrow.Author.Tests.{lt-ltb, le-ltb, ltb-true, ltb-false}
+use lib.Dec.{eqb, ltb}
 use lib.ListN.{length, take, drop, length-append, length-drop}
-use lib.Seq.{take-all, take-at, drop-at, take-append-le, drop-append-le, drop-append-add, drop-drop}
-use Rattle.answer.specs.Answer.{Answer, gives, refuses, refuse, _>>=_, _>>_}
+use lib.Seq.{length-take-le, take-all, take-at, drop-at, take-append-le, drop-append-le, drop-append-add, drop-drop}
+use Rattle.answer.specs.Answer.{Answer, gives, refuses, refuse, _>>=_, _>>_, passed}
+use Rattle.answer.specs.declared.Outcome.the-variants.{Done}
+use Rattle.layout.proofs.Writing.{held}
 use Rattle.v4x7.specs.declared.ClockRecord.{ClockRecord}
 use Rattle.profile.specs.Profile.{checkProfile}
-use Rattle.boards.specs.Tray.{numbersOf, inFours, boardOf, boardsIn, recordsOf, trayOf}
+use Rattle.boards.specs.Tray.{numbersOf, inFours, boardOf, boardsIn, recordsOf, trayOf, trayInto, Trayed}
 
 -- a record has 32 bytes
-pub in-fours-length : (m : Answer ClockRecord) → length (inFours (numbersOf m)) ≡ 32
+in-fours-length : (m : Answer ClockRecord) → length (inFours (numbersOf m)) ≡ 32
 in-fours-length (gives x) = refl
 in-fours-length (refuses n) = refl
 
@@ -69,7 +72,7 @@ pub one-board : (p : List ℕ) → length p ≡ 10 → trayOf p ≡ gives (board
 unfolding trayOf recordsOf
 one-board p e = rw (e, take-all 10 p (omega arith), append-nil (boardOf p))
 
--- The tray of two trays back to back is their records back to back; it is refused where the second is.
+-- The tray of two trays back to back, the first of them of whole boards, is their records back to back; it is refused where the second is.
 pub two-trays : (s t : List ℕ) → length s % 10 ≡ 0 → trayOf (s ++ t) ≡ (do
   a ← trayOf s
   b ← trayOf t
@@ -84,3 +87,33 @@ two-trays s t e =
         _>>_ (refuse 29 refused) (gives (x ++ y)) ≡ _>>=_ (_>>_ (refuse 29 refused) (gives y)) (λ b. gives (x ++ b))
     by-test true x y = refl
     by-test false x y = refl
+
+-- no profiles: accepted, and nothing is written
+pub no-boards : (l : List ℕ) → trayInto [] l ≡ gives l
+unfolding trayOf recordsOf
+no-boards l = rw (le-ltb (length l) 0 (omega arith))
+
+-- record i, in the lent bytes of a tray that was written
+pub record-lent : (s : List ℕ) {l l′ : List ℕ} (i : ℕ) → Trayed s l l′ Done → i < boardsIn s → take 32 (drop (32 * i) l′) ≡ boardOf (take 10 (drop (10 * i) s))
+unfolding trayOf
+record-lent s {l} i w h =
+    let n : ℕ = boardsIn s in
+    let all : List ℕ = recordsOf n s in
+    let done = held w refl in
+    let served = passed 29 (not (eqb (length s % 10) 0)) (gives all) (done .gave) in
+    let e : done .bytes ≡ all = (let g : gives all ≡ gives (done .bytes) = served .after in cc) in
+    let size = records-length n s in
+    let left : 32 ≤ length (drop (32 * i) all) = rw length-drop (omega arith) in
+    rw (done .lent, e, drop-append-le (32 * i) all (drop (32 * n) l) (omega arith), take-append-le 32 (drop (32 * i) all) (drop (32 * n) l) left)
+    (record-at n i s h)
+
+-- The program lends 65,536 bytes, and reads 20,490 at most: whatever lies beyond these, the tray is answered as the whole of it.
+pub enough-read : (s l : List ℕ) → length l ≡ 65536 → trayInto (take 20490 s) l ≡ trayInto s l
+enough-read s l e = by-test (ltb 20490 (length s)) refl
+  where
+    by-test : (long : Bool) → ltb 20490 (length s) ≡ long → trayInto (take 20490 s) l ≡ trayInto s l
+    by-test true t =
+        let more = ltb-true 20490 (length s) t in
+        let size = length-take-le 20490 s (omega arith) in
+        rw (lt-ltb (length l) (32 * boardsIn (take 20490 s)) (omega arith), lt-ltb (length l) (32 * boardsIn s) (omega arith))
+    by-test false t = ap (λ (p : List ℕ). trayInto p l) (take-all 20490 s (ltb-false 20490 (length s) t))

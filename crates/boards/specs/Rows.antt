@@ -1,33 +1,24 @@
 -- Worked boards and trays, of the definitions. Boards: row A11 of document 01; row A2, which is refused by 4; and one whose seven frequencies all
 -- differ: HSI's 20 MHz, AHB by 2, APB1 by 4, APB2 by 16, the ADC by 8. Trays: how they are answered by their lengths, where 32 and 29 compete too.
 -- Assumes nothing.
-use Prim.Native.Nat.{ℕ, _*_}
+use Prim.Native.Nat.{ℕ}
 use mathlib.Core.Path.{_≡_, refl, ap}
 use mathlib.Core.List.{List, [], _∷_, _++_, map, append-nil}
 use lib.ListN.{replicate}
 use Rattle.answer.specs.Answer.{Answer, gives, refuses}
 use Rattle.answer.specs.Order.{bare}
-use Rattle.layout.specs.Lent.{written}
 use Rattle.v4x7.specs.declared.ClockRecord.{ClockRecord}
 use Rattle.profile.specs.Profile.{checkProfile}
 use Rattle.profile.specs.Rows as rows
-use Rattle.boards.specs.Tray.{numbersOf, inFours, boardOf, boardsIn, recordsOf, trayOf}
-
-abbrev a11 : List ℕ
-a11 = 0x00 ∷ 0x00 ∷ 0x00 ∷ 0x00 ∷ 0x00 ∷ 0x18 ∷ 0x00 ∷ 0x00 ∷ 0x00 ∷ 0x34 ∷ []
-
-abbrev a2 : List ℕ
-a2 = 0x80 ∷ 0x13 ∷ 0x12 ∷ 0xCF ∷ 0xC0 ∷ 0x18 ∷ 0x00 ∷ 0x00 ∷ 0x00 ∷ 0x34 ∷ []
-
-abbrev apart : List ℕ
-apart = 0x00 ∷ 0x00 ∷ 0x00 ∷ 0x00 ∷ 0x00 ∷ 0x18 ∷ 0x04 ∷ 0x5E ∷ 0x00 ∷ 0x34 ∷ []
+use Rattle.profile.specs.Rows.{a11Profile, a2Profile, dividedProfile}
+use Rattle.boards.specs.Tray.{numbersOf, inFours, boardOf, recordsOf, trayOf, trayInto}
 
 -- a board's record, of what its check says
 shown : (p : List ℕ) {m : Answer ClockRecord} → checkProfile p ≡ m → boardOf p ≡ inFours (numbersOf m)
 unfolding boardOf
 shown p e = ap (λ (m : Answer ClockRecord). inFours (numbersOf m)) e
 
-pub a11-board : boardOf a11 ≡
+pub a11-board : boardOf a11Profile ≡
     0x00 ∷ 0x00 ∷ 0x00 ∷ 0x00  -- accepted
     ∷ 0x01 ∷ 0x31 ∷ 0x2D ∷ 0x00  -- SYSCLK 20,000,000
     ∷ 0x01 ∷ 0x31 ∷ 0x2D ∷ 0x00
@@ -37,12 +28,12 @@ pub a11-board : boardOf a11 ≡
     ∷ 0x01 ∷ 0x31 ∷ 0x2D ∷ 0x00
     ∷ 0x00 ∷ 0x26 ∷ 0x25 ∷ 0xA0  -- ADC 2,500,000
     ∷ []
-a11-board = shown a11 rows.a11
+a11-board = shown a11Profile rows.a11
 
-pub a2-board : boardOf a2 ≡ 0x00 ∷ 0x00 ∷ 0x00 ∷ 0x04 ∷ replicate 28 0
-a2-board = shown a2 rows.a2
+pub a2-board : boardOf a2Profile ≡ 0x00 ∷ 0x00 ∷ 0x00 ∷ 0x04 ∷ replicate 28 0
+a2-board = shown a2Profile rows.a2
 
-pub apart-board : boardOf apart ≡
+pub divided-board : boardOf dividedProfile ≡
     0x00 ∷ 0x00 ∷ 0x00 ∷ 0x00  -- accepted
     ∷ 0x01 ∷ 0x31 ∷ 0x2D ∷ 0x00  -- SYSCLK 20,000,000
     ∷ 0x00 ∷ 0x98 ∷ 0x96 ∷ 0x80  -- HCLK 10,000,000
@@ -52,12 +43,17 @@ pub apart-board : boardOf apart ≡
     ∷ 0x00 ∷ 0x13 ∷ 0x12 ∷ 0xD0  -- PCLK2's timers 1,250,000
     ∷ 0x00 ∷ 0x01 ∷ 0x31 ∷ 0x2D  -- ADC 78,125
     ∷ []
-apart-board = shown apart rows.apart
+divided-board = shown dividedProfile rows.divided
 
 -- a refused board between two accepted ones
-pub three : trayOf (apart ++ a2 ++ a11) ≡ gives (boardOf apart ++ (boardOf a2 ++ boardOf a11))
+pub three : trayOf (dividedProfile ++ a2Profile ++ a11Profile) ≡ gives (boardOf dividedProfile ++ (boardOf a2Profile ++ boardOf a11Profile))
 unfolding trayOf recordsOf
-three = ap (λ (l : List ℕ). gives (boardOf apart ++ (boardOf a2 ++ l))) (append-nil (boardOf a11))
+three = ap (λ (l : List ℕ). gives (boardOf dividedProfile ++ (boardOf a2Profile ++ l))) (append-nil (boardOf a11Profile))
+
+-- bytes beyond stay
+pub beyond : trayInto a11Profile (replicate 34 0xEE) ≡ gives (boardOf a11Profile ++ (0xEE ∷ 0xEE ∷ []))
+unfolding trayOf recordsOf
+beyond = rw append-nil
 
 -- So many bytes of profiles, so many lent: how the tray is answered.
 abbrev Row : Type 0
@@ -66,6 +62,7 @@ Row = ℕ × ℕ × Answer (Unit {0})
 pub lengths : List Row
 lengths =
     (0, 0, gives tt)
+    ∷ (0, 5, gives tt)
     ∷ (9, 0, refuses 29)
     ∷ (10, 31, refuses 32)
     ∷ (10, 32, gives tt)
@@ -79,7 +76,7 @@ lengths =
     ∷ []
 
 pub answered : Row → Row
-answered (n, m, r) = let s : List ℕ = replicate n 0 in (n, m, bare (written (32 * boardsIn s) (trayOf s) (replicate m 0)))
+answered (n, m, r) = let s : List ℕ = replicate n 0 in (n, m, bare (trayInto s (replicate m 0)))
 
 pub lengths-hold : map answered lengths ≡ lengths
 unfolding answered lengths trayOf

@@ -1,12 +1,14 @@
 -- A tray of boards at once: document 02, K2.
 -- Assumes nothing.
-use Prim.Native.Nat.{ℕ, zero, suc, _/_, _%_}
+use Prim.Native.Nat.{ℕ, zero, suc, _*_, _/_, _%_}
 use mathlib.Core.Bool.{not}
 use mathlib.Core.List.{List, [], _∷_, _++_}
 use lib.Dec.{eqb}
 use lib.ListN.{length, take, drop, replicate}
 use Rattle.answer.specs.Answer.{Answer, gives, refuses, refuse, _>>_}
+use Rattle.answer.specs.declared.Outcome.{Outcome}
 use Rattle.layout.specs.Layout.{unpack, bytes}
+use Rattle.layout.specs.Lent.{written, Wrote}
 use Rattle.v4x7.specs.declared.ClockRecord.{ClockRecord}
 use Rattle.profile.specs.Profile.{checkProfile}
 
@@ -34,8 +36,17 @@ unfoldable pub recordsOf : ℕ → List ℕ → List ℕ
 recordsOf zero s = []
 recordsOf (suc n) s = boardOf (take 10 s) ++ recordsOf n (drop 10 s)
 
--- the bytes that a tray is written as; 29: its length is not a multiple of ten. (32 comes before it: `Wrote`.)
+-- the bytes that a tray is written as: "29 if the length is not a multiple of ten"
 unfoldable pub trayOf : List ℕ → Answer (List ℕ)
 trayOf s = do
   refuse 29 (not (eqb (length s % 10) 0))
   gives (recordsOf (boardsIn s) s)
+
+-- What the lent bytes l are to hold, or why nothing is written: "32 first if the output has fewer than 32 bytes for each whole ten of input", then 29.
+-- "Bytes beyond stay."
+abbrev pub trayInto : List ℕ → List ℕ → Answer (List ℕ)
+trayInto s l = written (32 * boardsIn s) (trayOf s) l
+
+-- A tray s written into l: the answer r, and every lent byte.
+abbrev pub Trayed : List ℕ → List ℕ → List ℕ → Outcome → Type 0
+Trayed s l l′ r = Wrote (32 * boardsIn s) (trayOf s) l l′ r

@@ -1,12 +1,11 @@
 // A tray of boards at once: profiles back to back, and for each the 32 bytes that say what its check says.
 ghost use mathlib.Core.Path.{_≡_};
-ghost use Prim.Native.Nat.{_+_, _*_, _≤_};
+ghost use Prim.Native.Nat.{_+_, _≤_};
 ghost use lib.ListN.{length};
 ghost use lib.Seq.{sets};
 ghost use Rattle.v4x7.specs.Check.{checkedSays};
 ghost use Rattle.layout.specs.Layout.{unpack, bytes};
-ghost use Rattle.layout.specs.Lent.{Wrote};
-ghost use Rattle.boards.specs.Tray.{numbersOf, inFours, boardOf, boardsIn, trayOf};
+ghost use Rattle.boards.specs.Tray.{numbersOf, inFours, boardOf, Trayed};
 use answer::Outcome;
 use v4x7::Checked;
 
@@ -69,17 +68,17 @@ pub fn board(profile: &[u8]) -> [u8; 32]
 // Writes the records of all profiles, which lie back to back, at the start of out; the bytes beyond stay.
 // Refused by 32: out has fewer than 32 bytes for each whole ten of profiles. Then by 29: their length is not a multiple of ten.
 pub fn tray(profiles: &[u8], out: &mut [u8]) -> Outcome
-    ensures { λ r. ⌜ Wrote (32 * boardsIn (now (profiles .entry))) (trayOf (now (profiles .entry))) (now (out .entry)) (now (out .exit)) r ⌝ }
+    ensures { λ r. ⌜ Trayed (now (profiles .entry)) (now (out .entry)) (now (out .exit)) r ⌝ }
 {
-    let boards = profiles.len() / profile::SIZE;
-    if out.len() / RECORD < boards {
+    let count = profiles.len() / profile::SIZE;
+    if out.len() / RECORD < count {
         return Outcome::Refused(answer::OUTPUT_TOO_SHORT);
     }
     if profiles.len() % profile::SIZE != 0 {
         return Outcome::Refused(answer::PROFILE_LENGTH);
     }
     let mut i = 0;
-    while i < boards {
+    while i < count {
         let at = i * profile::SIZE;
         let checked = profile::check_profile(&profiles[at..at + profile::SIZE]);
         put_record(out, i * RECORD, numbers(checked));

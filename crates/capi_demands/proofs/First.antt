@@ -2,14 +2,14 @@
 use Prim.Native.Nat.{ℕ, zero, suc}
 use mathlib.Core.Path.{_≡_, _∙_, refl, ap}
 use mathlib.Core.Bool.{Bool, true, false, not}
-use mathlib.Core.List.{List, [], _∷_, _++_}
+use mathlib.Core.List.{List, [], _∷_}
 use native.Mathlib.Omega.{arith}
 use borrow.Author.Tests.{le-leb}
 use lib.Dec.{leb, ltb}
 use lib.IntN.{ℤ}
 use lib.ListN.{length, take, drop}
 use Rattle.answer.specs.Answer.{Answer, gives, refuses, refuse, _>>_}
-use Rattle.answer.specs.Order.{Test, firstOf, bare, behind, InOrder, order-gives, order-then, order-bind, order-behind, order-past, else-order}
+use Rattle.answer.specs.Order.{Test, firstOf, bare, InOrder, order-gives, order-then, order-bind, order-behind, order-past, else-order}
 use Rattle.answer.specs.Lists.{order-map}
 use Rattle.divider.specs.declared.Family.the-variants.{H4}
 use Rattle.divider.specs.Frequency.{whole}
@@ -18,7 +18,6 @@ use Rattle.divider.specs.Laws.{by-ahb-else}
 use Rattle.layout.specs.Layout.{fitting, packed}
 use Rattle.layout.specs.Lent.{written}
 use Rattle.layout.specs.Order.{written-in-order}
-use Rattle.v4x7.specs.Order.{checkTests}
 use Rattle.v4x7.proofs.Order.{check-in-order}
 use Rattle.profile.specs.Profile as profile
 use Rattle.profile.specs.Order as profileOrder
@@ -80,7 +79,7 @@ images : (i : List ℕ) → InOrder (imageOrder.readTests i) (image.readImage i)
 images i = record { goes = imageOrder.read-in-order i }
 
 -- a profile's check
-checks : (p : List ℕ) → InOrder (profileOrder.readTests p ++ behind (profile.readProfile p) checkTests) (profile.checkProfile p)
+checks : (p : List ℕ) → InOrder (profileOrder.checkProfileTests p) (profile.checkProfile p)
 checks p = record { goes = demand1 .check-profile .in-order p }
 
 -- ---- a record taken apart, or made

@@ -3,11 +3,11 @@
 -- then those of the call behind it, over what was read. That a refusal leaves what was lent is `Demand1`'s `call` and `call-one`, and of two lent numbers
 -- `ThroughTwo`; that two results of a call are equal, `given-settled`, `given-one-settled` and `given-serial-settled`.
 -- Assumes nothing.
-use Prim.Native.Nat.{ℕ, _*_, _%_}
+use Prim.Native.Nat.{ℕ, _*_}
 use mathlib.Core.Path.{_≡_}
 use mathlib.Core.Bool.{Bool, true, false, not}
 use mathlib.Core.List.{List, [], _∷_, _++_}
-use lib.Dec.{ltb, eqb}
+use lib.Dec.{ltb}
 use lib.IntN.{ℤ}
 use lib.ListN.{length, take, drop}
 use Rattle.answer.specs.Answer.{Answer, gives, refuses}
@@ -28,6 +28,7 @@ use Rattle.h4.specs.Order as order4
 use Rattle.serial.specs.Serial.{divisorOf}
 use Rattle.serial.specs.Order.{divisorTests}
 use Rattle.boards.specs.Tray.{boardsIn, trayOf}
+use Rattle.boards.specs.Order.{lengthTests}
 use Rattle.capi_give.specs.Given.{decoderHse, Given, GivenOne, numberIn, twoWords, sixWords, sevenWords}
 use Rattle.demands.specs.First.{wide}
 use Rattle.capi.specs.Calls as capi
@@ -71,11 +72,11 @@ SerialGoes = (pclk rate : ℕ) → ThroughTwo (divisorOf pclk rate) (divisorTest
 
 -- a tray of boards: 32 bytes for each whole ten of the profiles, then 29
 abbrev pub TrayGoes : Type 0
-TrayGoes = (s : List ℕ) → Through (32 * boardsIn s) (trayOf s) ((29, not (eqb (length s % 10) 0)) ∷ [])
+TrayGoes = (s : List ℕ) → Through (32 * boardsIn s) (trayOf s) (lengthTests s)
 
 pub record Demand1InC : Type 0 where
   -- V4x7: the check, the decoder, the queries, behind the readers of profile and image
-  pub check : (p : List ℕ) → Through 7 (sevenWords (capi.sevenOf (profile.checkProfile p))) (profileOrder.readTests p ++ behind (profile.readProfile p) checkTests)
+  pub check : (p : List ℕ) → Through 7 (sevenWords (capi.sevenOf (profile.checkProfile p))) (profileOrder.checkProfileTests p)
   pub decode : (i : List ℕ) (hz : ℕ) →
       Through 6 (sixWords (capi.decodeRead i hz)) (imageOrder.readTests i ++ behind (image.readImage i) (λ f. decodeTests f (decoderHse hz)))
   pub adc : (i : List ℕ) (sys : ℕ) →

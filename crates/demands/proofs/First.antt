@@ -1,8 +1,13 @@
 -- The first demand holds. Assumes nothing.
-use Prim.Native.Nat.{ℕ, _*_}
-use mathlib.Core.Path.{_≡_, refl, sym, _∙_}
+use Prim.Native.Nat.{ℕ, _*_, _<_}
+use mathlib.Core.Path.{_≡_, refl, sym, ap, _∙_}
+use mathlib.Core.Bool.{Bool, true, false, _&&_}
+use native.Mathlib.Omega.{arith}
+use borrow.Author.Tests.{ltb-true}
+use lib.Dec.{ltb}
 use mathlib.Core.List.{List, [], _∷_, _++_}
-use Rattle.answer.specs.Answer.{Answer, gives, refuses, _>>_, refuses-gives}
+use Rattle.answer.specs.Answer.{Answer, gives, refuses, _>>_, refuses-gives, gives-refuses, same-refusal}
+use Rattle.answer.specs.Tools.{and-left, and-right}
 use Rattle.answer.specs.Said.{replySays, outcomeSays, reply-settled, outcome-settled}
 use Rattle.answer.specs.Order.{Test, firstOf, bare, behind, order-behind, OrElse, else-order, else-refuse}
 use Rattle.divider.specs.Frequency.{rateSays, rate-settled}
@@ -14,6 +19,7 @@ use Rattle.tree.specs.Order.{below-else, clocks-else}
 use Rattle.v4x7_rules.specs.Rules.{ratioSays, ratio-settled, hseInRange}
 use Rattle.v4x7_rules.specs.Plain.{outside}
 use Rattle.v4x7_rules.specs.Order as rules
+use Rattle.v4x7.specs.declared.Config.{Config}
 use Rattle.v4x7.specs.Check.{checkedSays, checked-settled}
 use Rattle.v4x7.specs.Order.{checkTests}
 use Rattle.v4x7.proofs.Order.{check-in-order}
@@ -86,11 +92,34 @@ in-range : (hz : ℕ) → bare (hseInRange hz) ≡ firstOf ((4, outside 5000000 
 unfolding hseInRange
 in-range hz = goes (else-refuse 4 (outside 5000000 32000000 hz))
 
-check-profile-in-order : (p : List ℕ) → bare (profile.checkProfile p) ≡ firstOf (profileOrder.readTests p ++ behind (profile.readProfile p) checkTests)
+check-profile-in-order : (p : List ℕ) → bare (profile.checkProfile p) ≡ firstOf (profileOrder.checkProfileTests p)
 unfolding profile.checkProfile
 check-profile-in-order p =
     order-behind {l = profileOrder.readTests p} {k = checkTests} (profile.readProfile p) (record { goes = profileOrder.read-in-order p })
     (λ c. record { goes = check-in-order c }) .goes
+
+-- each number of a list is 1 to 255
+abbrev named : List Test → Bool
+named [] = true
+named (t ∷ l) = ltb 0 (t .0) && ltb (t .0) 256 && named l
+
+first-named : (l : List Test) {n : ℕ} → named l ≡ true → firstOf l ≡ refuses n → (0 < n) × (n < 256)
+first-named [] t e = gives-refuses e
+first-named ((k, true) ∷ l) t e =
+    let s = same-refusal e in
+    let both = and-left (ltb 0 k && ltb k 256) (named l) t in
+    let low = ltb-true 0 k (and-left (ltb 0 k) (ltb k 256) both) in
+    let high = ltb-true k 256 (and-right (ltb 0 k) (ltb k 256) both) in
+    (omega arith, omega arith)
+first-named ((k, false) ∷ l) t e = first-named l (and-right (ltb 0 k && ltb k 256) (named l) t) e
+
+numbered : (p : List ℕ) {n : ℕ} → profile.checkProfile p ≡ refuses n → (0 < n) × (n < 256)
+unfolding profileOrder.readTests
+numbered p e = first-named (profileOrder.checkProfileTests p) (all-named (profile.readProfile p)) (sym (check-profile-in-order p) ∙ ap bare e)
+  where
+    all-named : (m : Answer Config) → named (profileOrder.readTests p ++ behind m checkTests) ≡ true
+    all-named (gives c) = refl
+    all-named (refuses n) = refl
 
 parts : Parts
 parts = record {
@@ -124,6 +153,7 @@ pub demand1 : Demand1
 demand1 = record {
   check = answers checkedSays _ (λ n. refl) checked-settled check-in-order;
   check-profile = answers checkedSays _ (λ n. refl) checked-settled check-profile-in-order;
+  numbered = numbered;
   read-profile = answers readProfileSays _ (λ n. refl) profile.read-settled profileOrder.read-in-order;
   read-image = answers readImageSays _ (λ n. refl) image.read-settled imageOrder.read-in-order;
   write-profile =

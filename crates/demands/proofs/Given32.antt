@@ -44,7 +44,7 @@ use Rattle.serial.specs.Rows.{clocks}
 use Rattle.boards.specs.Tray.{boardsIn, trayOf}
 use Rattle.demands.specs.First.{EachGiven, writeOf, checkGiven1, checkGiven30, Demand1Exact}
 use Rattle.demands.proofs.Given.{by, by-row, each-behind, checks, starts, decodes, adc-queries, rng-queries}
-use Rattle.demands.proofs.Given.{read-profiles, read-images, write-profiles, write-images}
+use Rattle.demands.proofs.Given.{check-profiles, read-profiles, read-images, write-profiles, write-images}
 
 abbrev xtal : ℕ → Hse
 xtal hz = hse.Present false hz
@@ -175,6 +175,7 @@ trays = (by (replicate 10 0, []) refl, (by (0 ∷ [], []) refl, tt))
 pub demand1-exact : Demand1Exact
 demand1-exact = record {
   check = checks;
+  check-profile = check-profiles;
   read-profile = read-profiles;
   read-image = read-images;
   write-profile = write-profiles;

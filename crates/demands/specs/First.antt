@@ -6,13 +6,13 @@
 -- Of lent memory: a refused write, a call for C and Rust that returns a number, and a startup answered 28 leave what was handed in.
 -- `Demand1Exact`: the families' calls give every number of their lists, 16 apart.
 -- Assumes nothing.
-use Prim.Native.Nat.{ℕ, _*_}
+use Prim.Native.Nat.{ℕ, _*_, _<_}
 use mathlib.Core.Path.{_≡_}
 use mathlib.Core.Bool.{Bool, not}
 use mathlib.Core.List.{List, [], _∷_, _++_}
 use lib.Dec.{leb}
 use Rattle.answer.specs.Answer.{Answer, gives, refuses, _>>_}
-use Rattle.answer.specs.Order.{Test, firstOf, bare, behind}
+use Rattle.answer.specs.Order.{Test, firstOf, bare}
 use Rattle.answer.specs.Said.{replySays, outcomeSays}
 use Rattle.answer.specs.declared.Reply.the-variants as reply
 use Rattle.answer.specs.declared.Outcome.the-variants as outcome
@@ -153,7 +153,9 @@ pub record Parts : Type 0 where
 pub record Demand1 : Type 1 where
   -- V4x7: the check, both readers and writers, the decoder, the queries, the start
   pub check : Answers checkedSays checked.Refused checkOf checkTests
-  pub check-profile : Answers checkedSays checked.Refused checkProfile (λ p. profileOrder.readTests p ++ behind (readProfile p) checkTests)
+  pub check-profile : Answers checkedSays checked.Refused checkProfile profileOrder.checkProfileTests
+  -- its refusal is never 0, and is one byte: by its first number a board's record says whether the board is accepted
+  pub numbered : (p : List ℕ) {n : ℕ} → checkProfile p ≡ refuses n → (0 < n) × (n < 256)
   pub read-profile : Answers readProfileSays profile.Refused readProfile profileOrder.readTests
   pub read-image : Answers readImageSays image.Refused readImage imageOrder.readTests
   pub write-profile :
@@ -221,6 +223,10 @@ EachGiven of (n ∷ l) = Refusing of n × EachGiven of l
 abbrev pub checkGiven : List ℕ
 checkGiven = 28 ∷ 1 ∷ 2 ∷ 4 ∷ 3 ∷ 5 ∷ 6 ∷ 7 ∷ 8 ∷ 9 ∷ 10 ∷ 11 ∷ 12 ∷ 13 ∷ 14 ∷ 15 ∷ []
 
+-- V4x7 check of a profile: the reader's two, then the check's; a profile that is read has no code that 28 refuses
+abbrev pub checkProfileGiven : List ℕ
+checkProfileGiven = 29 ∷ 30 ∷ 1 ∷ 2 ∷ 3 ∷ 4 ∷ 5 ∷ 6 ∷ 7 ∷ 8 ∷ 9 ∷ 10 ∷ 11 ∷ 12 ∷ 13 ∷ 14 ∷ 15 ∷ []
+
 -- V4x7 decoder: 28; HSE, SWS, USBHS and ETH PLL, main PLL, SYSPLL source, HCLK
 abbrev pub decodeGiven : List ℕ
 decodeGiven = 28 ∷ 3 ∷ 4 ∷ 20 ∷ 6 ∷ 17 ∷ 8 ∷ 18 ∷ 5 ∷ 19 ∷ 12 ∷ []
@@ -235,6 +241,7 @@ checkGiven30 = 28 ∷ 27 ∷ 3 ∷ 24 ∷ 25 ∷ 8 ∷ 20 ∷ 26 ∷ []
 
 pub record Demand1Exact : Type 0 where
   pub check : EachGiven checkOf checkGiven
+  pub check-profile : EachGiven checkProfile checkProfileGiven
   pub read-profile : EachGiven readProfile (29 ∷ 30 ∷ [])
   pub read-image : EachGiven readImage (31 ∷ [])
   pub write-profile : EachGiven (λ (x : Config × List ℕ). writeOf 10 (profileBytes (x .0)) (x .1)) (32 ∷ 30 ∷ [])

@@ -3,17 +3,18 @@
 use Prim.Native.Nat.{ℕ, _+_, _*_, _^_}
 use mathlib.Core.Path.{_≡_, sym, ap, _∙_}
 use mathlib.Core.Bool.{_&&_, _||_, not}
-use mathlib.Core.List.{List, [], _∷_}
+use mathlib.Core.List.{List, [], _∷_, _++_}
 use native.Mathlib.Omega.{arith}
 use lib.ListN.{length, drop}
 use lib.Dec.{eqb, ltb, leb}
 use Rattle.answer.specs.Answer.{gives, refuse, _>>_}
-use Rattle.answer.specs.Order.{Test, firstOf, bare}
+use Rattle.answer.specs.Order.{Test, firstOf, bare, behind}
 use Rattle.layout.specs.Layout.{fitting, packed}
 use Rattle.layout.specs.Bits.{bitsAt, cut}
 use Rattle.layout.specs.Lent.{written}
 use Rattle.layout.specs.Order.{sames, after-test, same-number, written-in-order, bits-split}
 use Rattle.v4x7.specs.declared.Config.{Config}
+use Rattle.v4x7.specs.Order.{checkTests}
 use Rattle.profile.specs.Profile.{widths, frequencyIn, tests, allowed, configOf, readProfile, fieldsOf, writable, profileBytes}
 
 -- "Readers the length, then the fields in layout order."
@@ -53,6 +54,10 @@ read-in-order s =
     (λ (hz : ℕ). firstOf
     ((29, not (eqb (length s) 10)) ∷ (30, not (eqb (bitsAt s 0 1) 1 || (eqb (bitsAt s 1 1) 0 && eqb hz 0))) ∷ drop 2 (readTests s)))
     (sym (frequency-bits s))
+
+-- a profile's check: the reader's tests, then the check's, over what was read
+abbrev pub checkProfileTests : List ℕ → List Test
+checkProfileTests s = readTests s ++ behind (readProfile s) checkTests
 
 -- "Writers test 32 first .. A writer given what its reader would refuse, or a code too wide, gives 30."
 abbrev pub writeTests : Config → List ℕ → List Test

@@ -180,9 +180,19 @@ unfolding found wanted rows row config default hseAt mainPll system sysPll usbHs
     adcRatioOf limitsOf adcFromHclkOf adcFromUsbHsOf totalOf ahbOf ahbDivisor ahbDivisors apbDivisor byAhbOf apbQuotientOf apbOf over
 rows-hold = refl
 
--- Rows A11 and A2 whole, from their bytes to the check's answer.
+-- Three profiles whole, from their bytes to the check's answer: rows A11 and A2, and one whose seven frequencies all differ: HSI, AHB by 2, APB1 by 4, APB2
+-- by 16, ADC by 8.
 
-pub a11 : checkProfile (0x00 ∷ 0x00 ∷ 0x00 ∷ 0x00 ∷ 0x00 ∷ 0x18 ∷ 0x00 ∷ 0x00 ∷ 0x00 ∷ 0x34 ∷ []) ≡ gives (record {
+abbrev pub a11Profile : List ℕ
+a11Profile = 0x00 ∷ 0x00 ∷ 0x00 ∷ 0x00 ∷ 0x00 ∷ 0x18 ∷ 0x00 ∷ 0x00 ∷ 0x00 ∷ 0x34 ∷ []
+
+abbrev pub a2Profile : List ℕ
+a2Profile = 0x80 ∷ 0x13 ∷ 0x12 ∷ 0xCF ∷ 0xC0 ∷ 0x18 ∷ 0x00 ∷ 0x00 ∷ 0x00 ∷ 0x34 ∷ []
+
+abbrev pub dividedProfile : List ℕ
+dividedProfile = 0x00 ∷ 0x00 ∷ 0x00 ∷ 0x00 ∷ 0x00 ∷ 0x18 ∷ 0x04 ∷ 0x5E ∷ 0x00 ∷ 0x34 ∷ []
+
+pub a11 : checkProfile a11Profile ≡ gives (record {
   clocks = record { sysclk = 20000000; hclk = 20000000; pclk1 = 20000000; pclk2 = 20000000; «pclk1_tim» = 20000000; «pclk2_tim» = 20000000 };
   adc = 2500000;
 })
@@ -191,16 +201,15 @@ unfolding checkProfile readProfile tests configOf bitsAt checkOf named sourcesOf
     apbOf over
 a11 = refl
 
--- HSI, AHB by 2, APB1 by 4, APB2 by 16, ADC by 8: the seven frequencies all differ
-pub apart : checkProfile (0x00 ∷ 0x00 ∷ 0x00 ∷ 0x00 ∷ 0x00 ∷ 0x18 ∷ 0x04 ∷ 0x5E ∷ 0x00 ∷ 0x34 ∷ []) ≡ gives (record {
+pub a2 : checkProfile a2Profile ≡ refuses 4
+unfolding checkProfile readProfile tests configOf bitsAt checkOf named systemOf sourcesOf rngOf hsePresentOf hseInRange
+a2 = refl
+
+pub divided : checkProfile dividedProfile ≡ gives (record {
   clocks = record { sysclk = 20000000; hclk = 10000000; pclk1 = 2500000; pclk2 = 625000; «pclk1_tim» = 5000000; «pclk2_tim» = 1250000 };
   adc = 78125;
 })
 unfolding checkProfile readProfile tests configOf bitsAt checkOf named sourcesOf rngOf hsePresentOf mainOf ethOf usbHsOf systemOf sysclkOf
     busesOf clocksOf belowOf busOf timerClock adcOf adcRatioOf limitsOf adcFromHclkOf totalOf ahbOf ahbDivisor ahbDivisors apbDivisor byAhbOf apbQuotientOf
     apbOf over
-apart = refl
-
-pub a2 : checkProfile (0x80 ∷ 0x13 ∷ 0x12 ∷ 0xCF ∷ 0xC0 ∷ 0x18 ∷ 0x00 ∷ 0x00 ∷ 0x00 ∷ 0x34 ∷ []) ≡ refuses 4
-unfolding checkProfile readProfile tests configOf bitsAt checkOf named systemOf sourcesOf rngOf hsePresentOf hseInRange
-a2 = refl
+divided = refl

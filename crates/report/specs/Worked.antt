@@ -8,6 +8,7 @@ use Rattle.answer.specs.Answer.{Answer}
 use Rattle.tree.specs.declared.Clocks.{Clocks}
 use Rattle.v4x7.specs.declared.ClockRecord.{ClockRecord}
 use Rattle.profile.specs.Rows as rows
+use Rattle.profile.specs.Rows.{a11Profile, a2Profile}
 use Rattle.serial.specs.Serial.{nearestOf, divisorOf, portOf}
 use Rattle.text.specs.Decimal.{digits, decimal, signed}
 use Rattle.text.specs.DecimalLaws.{in-ten-digits}
@@ -23,13 +24,13 @@ unfolding digits
 two-and-a-half = in-ten-digits 2500000 (lit≤ tt)
 
 -- row A11, the default
-pub a11 : reportOf (0x00 ∷ 0x00 ∷ 0x00 ∷ 0x00 ∷ 0x00 ∷ 0x18 ∷ 0x00 ∷ 0x00 ∷ 0x00 ∷ 0x34 ∷ [])
+pub a11 : reportOf a11Profile
     ≡ ascii "sysclk 20000000\nhclk 20000000\npclk1 20000000\npclk2 20000000\npclk1_tim 20000000\npclk2_tim 20000000\nadc 2500000\n"
 unfolding reportOf answeredOf textOf linesOf lineOf portLines
 a11 = ap (λ (m : Answer ClockRecord). textOf m []) rows.a11 ∙ simp (twenty, two-and-a-half)
 
 -- row A2: HSE 4,999,999
-pub a2 : reportOf (0x80 ∷ 0x13 ∷ 0x12 ∷ 0xCF ∷ 0xC0 ∷ 0x18 ∷ 0x00 ∷ 0x00 ∷ 0x00 ∷ 0x34 ∷ []) ≡ ascii "refused 4\n"
+pub a2 : reportOf a2Profile ≡ ascii "refused 4\n"
 unfolding reportOf answeredOf textOf lineOf decimal digits
 a2 = ap (λ (m : Answer ClockRecord). textOf m []) rows.a2
 
@@ -56,12 +57,12 @@ unfolding portLines portLine portOf divisorOf nearestOf signed lineOf decimal di
 their-lines k e f = rw (e, f)
 
 -- a refused profile prints its one line only
-pub refused-with-ports : reportOf (0x80 ∷ 0x13 ∷ 0x12 ∷ 0xCF ∷ 0xC0 ∷ 0x18 ∷ 0x00 ∷ 0x00 ∷ 0x00 ∷ 0x34 ∷ ports) ≡ ascii "refused 4\n"
+pub refused-with-ports : reportOf (a2Profile ++ ports) ≡ ascii "refused 4\n"
 unfolding reportOf answeredOf textOf lineOf decimal digits
 refused-with-ports = ap (λ (m : Answer ClockRecord). textOf m ports) rows.a2
 
 -- the default's lines, and then those of its ports
-pub a11-with-ports : reportOf (0x00 ∷ 0x00 ∷ 0x00 ∷ 0x00 ∷ 0x00 ∷ 0x18 ∷ 0x00 ∷ 0x00 ∷ 0x00 ∷ 0x34 ∷ ports)
+pub a11-with-ports : reportOf (a11Profile ++ ports)
     ≡ ascii "sysclk 20000000\nhclk 20000000\npclk1 20000000\npclk2 20000000\npclk1_tim 20000000\npclk2_tim 20000000\nadc 2500000\n"
     ++ ascii "brr 174 error -44800\nrefused 28\nrefused 33\nrefused 34\n"
 unfolding reportOf answeredOf textOf linesOf lineOf

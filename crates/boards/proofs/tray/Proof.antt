@@ -1,5 +1,5 @@
 -- `boards::tray` meets its contract: from turn to turn, the boards that are still to be stored. Assumes nothing.
-use mathlib.Core.Path.{_≡_, refl, sym, ap, _∙_}
+use mathlib.Core.Path.{_≡_, refl, ap, _∙_}
 use mathlib.Core.List.{List}
 use Prim.Native.Nat.{ℕ, _+_, _-_, _*_, _≤_}
 use native.Mathlib.Omega.{arith}
@@ -7,7 +7,7 @@ use borrow.Author.Needs.{needs}
 use lib.ListN.{length, take, drop}
 use lib.Seq.{sets, length-sets}
 use Rattle.boards.specs.Tray.{inFours, boardOf, boardsIn, recordsOf}
-use Rattle.boards.proofs.Filling.{its-record, none-stored, board-stored, boards-stored, short, cut, served}
+use Rattle.boards.proofs.Filling.{its-record, none-stored, board-stored, boards-stored, too-short, uneven, served}
 use Rattle.boards.proofs.tray.Statement.{statement}
 use Rattle.boards.proofs.tray.Tie as tie
 
@@ -18,21 +18,24 @@ abbrev μ-loop : tie.MeasureT-loop
 μ-loop s out₀ n i₀ out i = n - i
 
 returns : tie.Need-returns Inv-loop μ-loop
-returns c = let args = c .before .before .before .args in short (args .profiles .now) (args .out .now) (c .if1 .taken)
+returns c = let args = c .before .before .before .args in too-short (args .profiles .now) (args .out .now) (c .if1 .taken)
 
 returns-2 : tie.Need-returns-2 Inv-loop μ-loop
-returns-2 c = let args = c .before .before .before .before .args in cut (args .profiles .now) (args .out .now) (c .before .if1 .left) (c .if2 .taken)
+returns-2 c = let args = c .before .before .before .before .args in uneven (args .profiles .now) (args .out .now) (c .before .if1 .left) (c .if2 .taken)
 
 loop-holds : tie.Need-loop-holds Inv-loop μ-loop
 loop-holds c = let args = c .before .before .before .before .args in (omega arith, refl, none-stored (args .out .now) (args .profiles .now) _)
 
 loop-again : tie.Need-loop-again Inv-loop μ-loop
 loop-again c =
-    let put = c .before .before .put-record .ensures in
-    let numbers = c .before .before .before .numbers in
-    let checked = c .before .before .before .before .before .check-profile .ensures in
-    let loop = c .before .before .before .before .before .before .before .before .loop in
-    let s = c .before .before .before .before .before .before .before .before .before .before .before .before .before .args .profiles .now in
+    let at-put = c .before .before in
+    let at-check = at-put .before .before .before in
+    let at-loop = at-check .before .before .before in
+    let put = at-put .put-record .ensures in
+    let numbers = at-put .before .numbers in
+    let checked = at-check .check-profile .ensures in
+    let loop = at-loop .loop in
+    let s = at-loop .before .before .before .before .before .args .profiles .now in
     let ten : loop .i * 10 + 10 - loop .i * 10 ≡ 10 = omega arith in
     let one : List ℕ = boardOf (take 10 (drop (loop .i * 10) s)) in
     let its : inFours (numbers .result) ≡ one = its-record _ _ (numbers .ensures) (rw ten at checked) in
