@@ -10,7 +10,7 @@ use borrow.Author.Tests.{ltb-true, ltb-false}
 use lib.Dec.{ltb, eqb}
 use lib.IntN.{ℤ, pos, negsuc, _+ℤ_, _-ℤ_, +ℤ-invr, -ℤ-+ℤ-cancel}
 use lib.Signed.{mag}
-use Rattle.answer.specs.Answer.{Answer, gives, refuse, _>>_, passed, same-given}
+use Rattle.answer.specs.Answer.{gives, passed, same-given}
 use Rattle.answer.specs.Tools.{cases}
 use Rattle.serial.specs.Serial.{nearestOf, errorOf, divisorOf}
 use Rattle.serial.specs.Order.{positive}
@@ -102,11 +102,8 @@ pub record Sets (p r brr : ℕ) (error : ℤ) : Type 0 where
 pub given : (p r : ℕ) {brr : ℕ} {error : ℤ} → divisorOf p r ≡ gives (brr, error) → Sets p r brr error
 unfolding divisorOf
 given p r e =
-    let n : ℕ = nearestOf p r in
-    let answer : Answer (ℕ × ℤ) = gives (n, errorOf p r n) in
-    let outside = ltb n 16 || ltb 65535 n in
-    let rate = passed 33 (eqb r 0) (_>>_ (refuse 34 outside) answer) e in
-    let range = passed 34 outside answer (rate .after) in
+    let rate = passed _ (eqb r 0) _ e in
+    let range = passed _ (ltb (nearestOf p r) 16 || ltb 65535 (nearestOf p r)) _ (rate .after) in
     let h = positive r (rate .failed) in
     subst (λ (x : ℕ × ℤ). Sets p r (x .0) (x .1)) (same-given (range .after)) (record {
       is-nearest = nearest p r h;

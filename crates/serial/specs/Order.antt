@@ -1,6 +1,6 @@
 -- Why a serial divisor is refused, in document 02's order. That BRR is outside 16..65,535 is said of the quotient: it is below 15.5, or 65,535.5 and more.
 -- Assumes nothing.
-use mathlib.Core.Path.{_≡_, refl, sym, _∙_}
+use mathlib.Core.Path.{_≡_, refl, sym, ap, _∙_}
 use mathlib.Core.Bool.{Bool, true, false, cond, not, _&&_, _||_}
 use mathlib.Core.List.{List, [], _∷_}
 use Prim.Native.Nat.{ℕ, _*_, _<_}
@@ -9,12 +9,12 @@ use native.Mathlib.Omega.{arith}
 use borrow.Author.Tests.{ltb-true, ltb-false, lt-ltb, le-ltb, le-leb, lt-leb, eqb-false}
 use lib.Dec.{ltb, leb, eqb}
 use lib.IntN.{ℤ}
-use Rattle.answer.specs.Answer.{gives, refuses, refuse, _>>=_, _>>_}
+use Rattle.answer.specs.Answer.{Answer, gives, refuses, refuse, _>>=_, _>>_}
 use Rattle.answer.specs.Order.{Test, firstOf, bare, InOrder, order-gives, order-past}
 use Rattle.answer.specs.Lists.{order-either}
 use Rattle.answer.specs.Tools.{cases}
 use Rattle.tree.specs.declared.Clocks.{Clocks}
-use Rattle.serial.specs.Serial.{nearestOf, errorOf, divisorOf, portOf}
+use Rattle.serial.specs.Serial.{nearestOf, divisorOf, portOf}
 
 -- 33: rate 0; 34: PCLK / rate below 15.5, or 65,535.5 and more
 abbrev pub divisorTests : ℕ → ℕ → List Test
@@ -54,21 +54,26 @@ module _ (p r : ℕ) (h : 0 < r) where
 
 pub divisor-in-order : (p r : ℕ) → bare (divisorOf p r) ≡ firstOf (divisorTests p r)
 unfolding divisorOf
-divisor-in-order p r = order-past {l = (34, ltb (2 * p) (31 * r)) ∷ (34, leb (131071 * r) (2 * p)) ∷ []} 33 (eqb r 0) (λ e. range (positive r e)) .goes
+divisor-in-order p r = order-past {l = (34, ltb (2 * p) (31 * r)) ∷ (34, leb (131071 * r) (2 * p)) ∷ []} 33 (eqb r 0) (λ e. range _ (positive r e)) .goes
   where
-    range : 0 < r → InOrder {A = ℕ × ℤ} ((34, ltb (2 * p) (31 * r)) ∷ (34, leb (131071 * r) (2 * p)) ∷ [])
-        (_>>_ (refuse 34 (ltb (nearestOf p r) 16 || ltb 65535 (nearestOf p r))) (gives (nearestOf p r, errorOf p r (nearestOf p r))))
-    range h =
+    range : (x : ℕ × ℤ) → 0 < r → InOrder ((34, ltb (2 * p) (31 * r)) ∷ (34, leb (131071 * r) (2 * p)) ∷ [])
+        (_>>_ (refuse 34 (ltb (nearestOf p r) 16 || ltb 65535 (nearestOf p r))) (gives x))
+    range x h =
         order-either (ltb (2 * p) (31 * r)) (leb (131071 * r) (2 * p))
         (rw (below-16 p r h, above-65535 p r h) (order-past 34 (ltb (2 * p) (31 * r) || leb (131071 * r) (2 * p)) (λ f. order-gives)))
 
-pub port-in-order : (k : Clocks) (bus r : ℕ) → bare (portOf k bus r) ≡ firstOf (portTests k bus r)
+-- the bus comes first; behind it stands the divisor of its clock, whatever that refuses by
+bus-first : (k : Clocks) (bus r : ℕ) → bare (portOf k bus r) ≡ cond (not (eqb bus 1) && not (eqb bus 2)) (refuses 28) (bare (divisorOf (pclkAt k bus) r))
 unfolding portOf
-port-in-order k bus r = by-bus (eqb bus 1) (eqb bus 2)
+bus-first k bus r = by-bus (eqb bus 1) (eqb bus 2)
   where
     by-bus : (a b : Bool)
         → bare (_>>=_ (cond a (gives (k .pclk1)) (cond b (gives (k .pclk2)) (refuses 28))) (λ pclk. divisorOf pclk r))
-        ≡ firstOf ((28, not a && not b) ∷ divisorTests (cond a (k .pclk1) (k .pclk2)) r)
-    by-bus true b = divisor-in-order (k .pclk1) r
-    by-bus false true = divisor-in-order (k .pclk2) r
+        ≡ cond (not a && not b) (refuses 28) (bare (divisorOf (cond a (k .pclk1) (k .pclk2)) r))
+    by-bus true b = refl
+    by-bus false true = refl
     by-bus false false = refl
+
+pub port-in-order : (k : Clocks) (bus r : ℕ) → bare (portOf k bus r) ≡ firstOf (portTests k bus r)
+port-in-order k bus r =
+    bus-first k bus r ∙ ap (λ (m : Answer (Unit {0})). cond (not (eqb bus 1) && not (eqb bus 2)) (refuses 28) m) (divisor-in-order (pclkAt k bus) r)

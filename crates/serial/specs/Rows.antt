@@ -1,4 +1,4 @@
--- Document 02's own example and cases worked by hand: one list and one statement for divisors, and one for ports.
+-- Document 02's own example and cases worked by hand: for divisors a list of those that are given, and one of those that are refused; and so for ports.
 -- Assumes nothing.
 use Prim.Native.Nat.{ℕ}
 use mathlib.Core.Path.{_≡_, refl}
@@ -18,12 +18,17 @@ rows =
     ((20000000, 115200), gives (174, negsuc 44799))
     -- a rate that divides PCLK: no error
     ∷ ((16000000, 1000000), gives (16, pos 0))
-    -- 15.5 is 16; 15.49 is 15
+    -- 15.5 is 16
     ∷ ((31, 2), gives (16, negsuc 0))
-    ∷ ((1549, 100), refuses 34)
-    -- 65,535 and 65,535.49 are 65,535; 65,535.5 is 65,536
+    -- 65,535 and 65,535.49 are 65,535
     ∷ ((65535, 1), gives (65535, pos 0))
     ∷ ((6553549, 100), gives (65535, pos 49))
+    ∷ []
+
+pub refusals : List Row
+refusals =
+    -- 15.49 is 15; 65,535.5 is 65,536
+    ((1549, 100), refuses 34)
     ∷ ((131071, 2), refuses 34)
     -- 33 before 34
     ∷ ((0, 0), refuses 33)
@@ -40,6 +45,10 @@ pub rows-hold : map found rows ≡ map wanted rows
 unfolding found wanted rows divisorOf nearestOf
 rows-hold = refl
 
+pub refusals-hold : map found refusals ≡ map wanted refusals
+unfolding found wanted refusals divisorOf nearestOf
+refusals-hold = refl
+
 -- six clocks that are all different
 unfoldable pub clocks : Clocks
 clocks = record { sysclk = 64000000; hclk = 32000000; pclk1 = 8000000; pclk2 = 4000000; «pclk1_tim» = 16000000; «pclk2_tim» = 2000000 }
@@ -50,8 +59,12 @@ ports =
     -- PCLK1 / 9,600 = 833.3, PCLK2 / 9,600 = 416.7
     ((1, 9600), gives (833, pos 3200))
     ∷ ((2, 9600), gives (417, negsuc 3199))
+    ∷ []
+
+pub port-refusals : List Row
+port-refusals =
     -- 28 before 33 and 34
-    ∷ ((0, 9600), refuses 28)
+    ((0, 9600), refuses 28)
     ∷ ((3, 0), refuses 28)
     ∷ ((3, 8000000), refuses 28)
     ∷ ((1, 0), refuses 33)
@@ -64,3 +77,7 @@ found-port ((bus, r), says) = portOf clocks bus r
 pub ports-hold : map found-port ports ≡ map wanted ports
 unfolding found-port wanted ports clocks portOf divisorOf nearestOf
 ports-hold = refl
+
+pub port-refusals-hold : map found-port port-refusals ≡ map wanted port-refusals
+unfolding found-port wanted port-refusals clocks portOf divisorOf nearestOf
+port-refusals-hold = refl
