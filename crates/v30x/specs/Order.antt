@@ -195,9 +195,13 @@ fields-codes f h =
     order-either (leb 16 (f .prediv1)) (leb 16 (f .pllmul))
     (order-under pll (codes-order (f .sws) (f .hpre) (f .ppre1) (f .ppre2)) (order-either pll (tooWide (f .sws) (f .hpre) (f .ppre1) (f .ppre2)) h))
 
-pub fields-in-order : (c : Config) (f : Fields) → bare (fieldsOf c f) ≡ firstOf (fieldsTests c f)
+-- they come first; behind them stands the check, whatever it refuses by
+fields-first : {l : List Test} (c : Config) (f : Fields) → InOrder l (checkOf c) → InOrder ((28, wideFields f) ∷ l) (fieldsOf c f)
 unfolding fieldsOf
-fields-in-order c f = fields-codes f (order-past 28 (wideFields f) (λ e. order-map (λ k. writtenOf c f) (checkOf c) (check-order c))) .goes
+fields-first c f h = order-past 28 (wideFields f) (λ e. order-map (λ k. writtenOf c f) (checkOf c) h)
+
+pub fields-in-order : (c : Config) (f : Fields) → bare (fieldsOf c f) ≡ firstOf (fieldsTests c f)
+fields-in-order c f = fields-codes f (fields-first c f (check-order c)) .goes
 
 -- The decoder: 28 for each code; then, where the clock in use needs it, 27, 3, 24.
 

@@ -1,4 +1,4 @@
--- Worked configurations and fields of CH32V30x, of the definitions: one list and one statement for the check and for the decoder.
+-- Worked configurations and fields of CH32V30x, of the definitions: for the check a list of its own for the USBHS reference, and one for the decoder.
 -- Assumes nothing.
 use mathlib.Core.Path.{refl}
 use mathlib.Core.Bool.{Bool, true, false}
@@ -66,14 +66,6 @@ rows =
     (plain hse.Absent 0 source.Hsi pll.Absent, gives (8000000, 0))
     ∷ (plain (xtal 25000000) 1 source.Hsi pll.Absent, gives (25000000, 0))
     ∷ (plain (xtal 25000000) 2 source.Hsi (pll.Present 1 4), gives (24000000, 0))
-    ∷ (usbhs (xtal 25000000) 2 source.Hse (pll.Present 4 10) from.Hse 4, gives (60000000, 0))
-    ∷ (usbhs (xtal 25000000) 2 source.Hse (pll.Present 4 10) from.Hsi 1, gives (60000000, 0))
-    ∷ (usbhs (xtal 25000000) 2 source.Hse (pll.Present 4 10) from.Hse 1, refuses 8)
-    ∷ (usbhs (xtal 8000000) 2 source.Hse (pll.Present 0 0) from.Hse 1, gives (144000000, 6))
-    ∷ (usbhs (xtal 24000000) 0 source.Hsi pll.Absent from.Hse 7, gives (8000000, 0))
-    ∷ (usbhs (xtal 12000000) 0 source.Hsi pll.Absent from.Hse 2, gives (8000000, 0))
-    ∷ (usbhs hse.Absent 0 source.Hsi pll.Absent from.Hsi 0, gives (8000000, 0))
-    ∷ (usbhs (xtal 24000000) 0 source.Hsi pll.Absent from.Hse 3, refuses 8)
     ∷ (plain hse.Absent 2 source.Hsi (pll.Present 0 10), gives (96000000, 4))
     ∷ (plain (xtal 8000001) 2 source.Hse (pll.Present 0 13), gives (52000006, 0))
     ∷ (plain (xtal 330382099) 2 source.Hse (pll.Present 0 13), gives (2147483643, 0))
@@ -90,6 +82,19 @@ rows =
     ∷ (plain hse.Absent 2 source.Hsi pll.Absent, refuses 26)
     ∷ []
 
+-- the USBHS reference: 5, 4, 12.5, 4, 3, 4, 8 and 6 MHz
+pub references : List (Config × Answer (ℕ × ℕ))
+references =
+    (usbhs (xtal 25000000) 2 source.Hse (pll.Present 4 10) from.Hse 4, gives (60000000, 0))
+    ∷ (usbhs (xtal 25000000) 2 source.Hse (pll.Present 4 10) from.Hsi 1, gives (60000000, 0))
+    ∷ (usbhs (xtal 25000000) 2 source.Hse (pll.Present 4 10) from.Hse 1, refuses 8)
+    ∷ (usbhs (xtal 8000000) 2 source.Hse (pll.Present 0 0) from.Hse 1, gives (144000000, 6))
+    ∷ (usbhs (xtal 24000000) 0 source.Hsi pll.Absent from.Hse 7, gives (8000000, 0))
+    ∷ (usbhs (xtal 12000000) 0 source.Hsi pll.Absent from.Hse 2, gives (8000000, 0))
+    ∷ (usbhs hse.Absent 0 source.Hsi pll.Absent from.Hsi 0, gives (8000000, 0))
+    ∷ (usbhs (xtal 24000000) 0 source.Hsi pll.Absent from.Hse 3, refuses 8)
+    ∷ []
+
 pub checks : Config → Answer (ℕ × ℕ)
 checks c = brief (checkOf c)
 
@@ -98,6 +103,12 @@ unfolding setup plain usbhs xtal brief rows checks
     checkOf wideConfig sourcesOf configuredPllOf pllFromOscillatorOf usbhsOf configuredClocksOf pllOutputOf multipliedOf factor sysclkOf usbDivisor
     clocksOf belowOf busOf timerClock byAhbOf ahbOf ahbDivisor ahbDivisors apbQuotientOf apbOf apbDivisor over
 rows-hold = refl
+
+pub references-hold : Worked checks references
+unfolding setup usbhs xtal brief references checks
+    checkOf wideConfig sourcesOf configuredPllOf pllFromOscillatorOf usbhsOf configuredClocksOf pllOutputOf multipliedOf factor sysclkOf usbDivisor
+    clocksOf belowOf busOf timerClock byAhbOf ahbOf ahbDivisor ahbDivisors apbQuotientOf apbOf apbDivisor over
+references-hold = refl
 
 -- The configurations that the Rust names by their frequency: `SYSCLK_FREQ_144MHZ_HSE`, `144MHZ_HSI`, `96MHZ_HSI`. `SYSCLK_FREQ_96MHZ_HSE` has
 -- `PllMul::MUL6` and so gives 48 MHz, half of what its name says.
