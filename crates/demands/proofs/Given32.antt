@@ -42,7 +42,7 @@ use Rattle.h4.specs.H4.{pclkOf, doubledOf, prescaledOf}
 use Rattle.serial.specs.Serial.{nearestOf, divisorOf, portOf}
 use Rattle.serial.specs.Rows.{clocks}
 use Rattle.boards.specs.Tray.{boardsIn, trayOf}
-use Rattle.demands.specs.First.{EachGiven, writeOf, checkGiven1, checkGiven30, Demand1Exact}
+use Rattle.demands.specs.First.{EachGiven, writeOf, checkGiven1, checkGiven30, trayGiven, Demand1Exact}
 use Rattle.demands.proofs.Given.{by, by-row, each-behind, checks, starts, decodes, adc-queries, rng-queries}
 use Rattle.demands.proofs.Given.{check-profiles, read-profiles, read-images, write-profiles, write-images}
 
@@ -168,7 +168,7 @@ unfolding clocks portOf divisorOf nearestOf
 ports = (by (clocks, 0, 0) refl, (by (clocks, 1, 0) refl, (by (clocks, 1, 8000000) refl, tt)))
 
 -- ten bytes of profiles, and one, with nothing lent
-trays : EachGiven (λ (x : List ℕ × List ℕ). writeOf (32 * boardsIn (x .0)) (trayOf (x .0)) (x .1)) (32 ∷ 29 ∷ [])
+trays : EachGiven (λ (x : List ℕ × List ℕ). writeOf (32 * boardsIn (x .0)) (trayOf (x .0)) (x .1)) trayGiven
 unfolding trayOf
 trays = (by (replicate 10 0, []) refl, (by (0 ∷ [], []) refl, tt))
 

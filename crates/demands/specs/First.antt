@@ -239,6 +239,10 @@ checkGiven1 = 28 ∷ 3 ∷ 24 ∷ 20 ∷ 26 ∷ []
 abbrev pub checkGiven30 : List ℕ
 checkGiven30 = 28 ∷ 27 ∷ 3 ∷ 24 ∷ 25 ∷ 8 ∷ 20 ∷ 26 ∷ []
 
+-- a tray of boards
+abbrev pub trayGiven : List ℕ
+trayGiven = 32 ∷ 29 ∷ []
+
 pub record Demand1Exact : Type 0 where
   pub check : EachGiven checkOf checkGiven
   pub check-profile : EachGiven checkProfile checkProfileGiven
@@ -262,4 +266,4 @@ pub record Demand1Exact : Type 0 where
   pub doubled4 : EachGiven doubledOf (28 ∷ [])
   pub divisor : EachGiven (λ (x : ℕ × ℕ). divisorOf (x .0) (x .1)) (33 ∷ 34 ∷ [])
   pub port : EachGiven (λ (x : Clocks × ℕ × ℕ). portOf (x .0) (x .1) (x .2)) (28 ∷ 33 ∷ 34 ∷ [])
-  pub tray : EachGiven (λ (x : List ℕ × List ℕ). writeOf (32 * boardsIn (x .0)) (trayOf (x .0)) (x .1)) (32 ∷ 29 ∷ [])
+  pub tray : EachGiven (λ (x : List ℕ × List ℕ). writeOf (32 * boardsIn (x .0)) (trayOf (x .0)) (x .1)) trayGiven
