@@ -266,17 +266,23 @@ fn trays() {
         [0x80, 0x13, 0x12, 0xcf, 0xc0, 0x18, 0, 0, 0, 0x34],
         [0, 0, 0, 0, 0, 0x18, 0, 0, 0, 0x34],
     ];
-    let mut lent = [0xee; 3 * BOARD_SIZE + 1];
-    assert_eq!(tray(&profiles.concat(), &mut lent), Ok(()));
-    let apart = Checked { clocks: clocks(20_000_000, 10_000_000, 2_500_000, 625_000, 5_000_000, 1_250_000), adc: 78_125 };
+    // Room for two boards more than there are: what lies beyond the records is not given back, and stays.
+    let mut lent = [0xee; 5 * BOARD_SIZE];
+    let records = tray(&profiles.concat(), &mut lent).unwrap();
+    assert_eq!(records.len(), 3 * BOARD_SIZE);
+    let divided = Checked { clocks: clocks(20_000_000, 10_000_000, 2_500_000, 625_000, 5_000_000, 1_250_000), adc: 78_125 };
     let a11 = Checked { clocks: clocks(20_000_000, 20_000_000, 20_000_000, 20_000_000, 20_000_000, 20_000_000), adc: 2_500_000 };
-    assert_eq!(boards(&lent).collect::<Vec<_>>(), [Ok(apart), Err(Refusal::HseOutOfRange), Ok(a11)]);
-    assert_eq!(lent[3 * BOARD_SIZE], 0xee);
-    // numbers that no tray writes
+    assert_eq!(boards(records).collect::<Vec<_>>(), [Ok(divided), Err(Refusal::HseOutOfRange), Ok(a11)]);
+    assert_eq!(lent[3 * BOARD_SIZE..], [0xee; 2 * BOARD_SIZE]);
+    // numbers that no tray writes: 16,843,009 and 35; and a record that is cut off
     assert_eq!(boards(&[1; BOARD_SIZE]).next(), Some(Err(Refusal::CodeNotAllowed)));
-    assert_eq!(boards(&[0; BOARD_SIZE - 1]).next(), None);
+    let mut record = [0; BOARD_SIZE];
+    record[3] = 35;
+    assert_eq!(boards(&record).next(), Some(Err(Refusal::CodeNotAllowed)));
+    assert_eq!(boards(&[0; 2 * BOARD_SIZE - 1]).count(), 1);
 
-    assert_eq!(tray(&[], &mut []), Ok(()));
+    assert_eq!(tray(&[], &mut []), Ok(&[][..]));
+    assert_eq!(tray(&[], &mut record), Ok(&[][..]));
     let mut lent = [0xee; BOARD_SIZE];
     assert_eq!(tray(&profiles.concat()[..19], &mut lent[..31]), Err(Refusal::OutputTooShort));
     assert_eq!(tray(&profiles.concat()[..19], &mut lent), Err(Refusal::ProfileLength));
@@ -285,10 +291,10 @@ fn trays() {
     let listed = listed();
     let many: Vec<_> = listed.iter().cycle().take(1_000).collect();
     let mut lent = vec![0xee; 1_000 * BOARD_SIZE];
-    assert_eq!(tray(&many.iter().flat_map(|board| board.1.clone()).collect::<Vec<_>>(), &mut lent), Ok(()));
-    assert!(boards(&lent).eq(many.iter().map(|board| check(&board.1))));
+    let records = tray(&many.iter().flat_map(|board| board.1.clone()).collect::<Vec<_>>(), &mut lent).unwrap();
+    assert!(boards(records).eq(many.iter().map(|board| check(&board.1))));
     assert!(many.iter().all(|board| check(&board.1).err() == Refusal::from_number(board.0)));
-    assert_eq!((listed.len(), boards(&lent).count()), (22, 1_000));
+    assert_eq!((listed.len(), boards(records).count()), (22, 1_000));
 }
 
 fn main() {
