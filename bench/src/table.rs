@@ -113,7 +113,7 @@ fn budgets(lines: &[Line]) -> Vec<(String, bool)> {
         let most = BOARDS as f64 * (one + BESIDE);
         let word = if whole <= most { "within" } else { "MORE THAN" };
         let sentence = format!(
-            "{}: {:.0}, {} {} x ({:.0} + {:.0}), which is {:.0}.",
+            "{}: {:.0}, {} {} x ({:.2} + {:.0}), which is {:.0}.",
             tray, whole, word, BOARDS, one, BESIDE, most
         );
         (sentence, whole <= most)
