@@ -9,20 +9,24 @@ use crate::summary::counted;
 use std::io::{stdin, stdout, Read, Write};
 use std::thread;
 
-/// What a program writes for a tray, and whether it ends with status 0. The tray is sent from a thread of its own; a program may end before it has
-/// read all of it.
-fn written(program: &str, tray: Tray) -> Result<(Vec<u8>, bool), String> {
+/// What a program does with a tray: what it writes, whether it lets all of the tray be sent, and whether it ends with status 0.
+struct Run {
+    written: Vec<u8>,
+    sent: bool,
+    well: bool,
+}
+
+/// Runs a program on a tray, which is sent from a thread of its own.
+fn serve(program: &str, tray: Tray) -> Result<Run, String> {
     let mut child = spawn(program)?;
     let mut input = child.stdin.take().expect("stdin is a pipe");
     let mut output = child.stdout.take().expect("stdout is a pipe");
-    let sender = thread::spawn(move || {
-        let _ = input.write_all(&tray);
-    });
-    let mut bytes = Vec::new();
-    output.read_to_end(&mut bytes).map_err(|error| error.to_string())?;
-    let status = child.wait().map_err(|error| error.to_string())?;
-    let _ = sender.join();
-    Ok((bytes, status.success()))
+    let sender = thread::spawn(move || input.write_all(&tray).is_ok());
+    let mut written = Vec::new();
+    output.read_to_end(&mut written).map_err(|error| error.to_string())?;
+    let well = child.wait().map_err(|error| error.to_string())?.success();
+    let sent = sender.join().unwrap_or(false);
+    Ok(Run { written, sent, well })
 }
 
 /// The number of a refused tray; 0: accepted.
@@ -78,10 +82,10 @@ pub fn run(seed: u64, count: usize, program: &str) -> Result<bool, String> {
     let mut same = true;
     for (i, tray) in trays(seed, count).enumerate() {
         let expected = output(&tray);
-        let (got, well) = written(program, tray.clone())?;
-        if got != expected || !well {
-            show(i, &tray, &expected, &got);
-            println!("  status 0: {}", well);
+        let run = serve(program, tray.clone())?;
+        if run.written != expected || !run.sent || !run.well {
+            show(i, &tray, &expected, &run.written);
+            println!("  all of it sent: {}, status 0: {}", run.sent, run.well);
             same = false;
             break;
         }
