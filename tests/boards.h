@@ -1,5 +1,6 @@
-/* The boards of a tray: BOARD(the number that the check answers, the ten bytes of the profile). Each refusal that a profile can have, as docs/REFUSALS.md shows
- * it, with accepted boards between them. tests/calls.c and tests/calls.rs read this list. */
+/* The boards of a tray: BOARD(the number that the check answers, the ten bytes of the profile). Each refusal that a profile of ten bytes can have, as
+ * docs/REFUSALS.md shows it, 16 apart, which no configuration is known to give; accepted boards stand between them. tests/calls.c and tests/calls.rs
+ * read this list. */
 /* row A11: HSI */
 BOARD(0, 0x00, 0x00, 0x00, 0x00, 0x00, 0x18, 0x00, 0x00, 0x00, 0x34)
 BOARD(1, 0x00, 0x00, 0x00, 0x00, 0x00, 0x18, 0x00, 0x00, 0x80, 0x34)

@@ -489,7 +489,7 @@ static void tray_of(int count)
     IS(memcmp(found, wanted, sizeof found), 0);
 }
 
-/* Which refusals the boards have: 1 to 15 and 30, all that a profile of ten bytes can be refused by. */
+/* Which refusals the boards have: 1 to 15 and 30, all that a profile of ten bytes can be refused by; 16, which no configuration is known to give, apart. */
 static void kinds(void)
 {
     uint32_t found = 0;

@@ -11,7 +11,7 @@ pub fn board(q: &[u8; 128]) -> [u8; 64] {
     codec::written(0x42, Outcome::Done, boards::board(&bytes[..n]), 32)
 }
 
-// The answer of a tray, and the first n bytes of its lent output from the query's place on.
+// The answer of a tray, and its lent output, n bytes long, from the query's place on.
 fn shown(q: &[u8; 128], outcome: Outcome, lent: &[u8; 448], n: usize) -> [u8; 64]
     requires { ⌜ n ≤ 448 ⌝ }
 {

@@ -25,7 +25,7 @@ fn tray(profiles: &[u8], lent: usize, held: u8, place: usize) -> Query {
     query(TRAY, &[&length, &bytes, &two(lent), &[held], &two(place)])
 }
 
-/// What a profile can be refused by. 16 never comes, and 29 is that of another length than ten.
+/// All that a profile of ten bytes can be refused by; 16, which no configuration is known to give, apart.
 pub const REFUSALS: [u8; 16] = [1, 2, 3, 4, 5, 6, 7, 8, 9, 10, 11, 12, 13, 14, 15, 30];
 
 /// A profile that is refused by this number: row A11 with something changed.
@@ -55,7 +55,7 @@ pub fn refused(number: u8) -> Profile {
 }
 
 /// An accepted profile whose seven frequencies all differ: HSE 29,876,543, AHB by 4, APB1 by 4, APB2 by 16, the ADC by 6.
-fn apart() -> Profile {
+fn all_differ() -> Profile {
     profile_of(&with(29_876_543, &[(6, 1), (15, 9), (16, 5), (17, 7), (21, 2)]))
 }
 
@@ -64,7 +64,7 @@ pub const EACH: usize = 2 * REFUSALS.len();
 pub fn each(i: usize) -> Profile {
     let at = i / 2 % REFUSALS.len();
     match i % 2 {
-        0 if at == 0 => apart(),
+        0 if at == 0 => all_differ(),
         0 => profile_of(&GOOD[at]),
         _ => refused(REFUSALS[at]),
     }
@@ -78,7 +78,7 @@ pub fn boards(i: usize) -> Query {
 /// A board's profile at every length: cut off, or with more of the same behind it.
 pub const LENGTHS: usize = LENT + 1;
 pub fn lengths(i: usize) -> Query {
-    let bytes: Vec<u8> = apart().into_iter().cycle().take(i).collect();
+    let bytes: Vec<u8> = all_differ().into_iter().cycle().take(i).collect();
     board(&bytes)
 }
 
@@ -133,7 +133,7 @@ pub fn windows(i: usize) -> Query {
 pub const AMONG: usize = REFUSALS.len() * 3 * 2;
 pub fn among(i: usize) -> Query {
     let mut d = Digits(i);
-    let mut profiles = [apart(), profile_of(&GOOD[7]), profile_of(&GOOD[10])];
+    let mut profiles = [all_differ(), profile_of(&GOOD[7]), profile_of(&GOOD[10])];
     let number = d.from(&REFUSALS);
     profiles[d.of(3)] = refused(number);
     let lent = 3 * RECORD;
