@@ -132,11 +132,11 @@ need_file() { # FILE
 # Standard input is a file, a pipe or the like: open, no terminal, and not /dev/null.
 is_given() { (exec 3<&0) 2>/dev/null && [ ! -t 0 ] && ! [ /dev/fd/0 -ef /dev/null ]; }
 
-# The first byte of standard input. Where none comes for a while, a line says what is awaited.
+# The first byte of standard input. Where none comes for a while, a line says what is awaited, and where from.
 first() { # AWAITED
     timeout --foreground 3 dd bs=1 count=1 2>/dev/null
     status=$?
-    [ $status -ne 124 ] || { say "waits for $1 on standard input (bin/$me --help)"; status=0; dd bs=1 count=1 2>/dev/null || status=$?; }
+    [ $status -ne 124 ] || { say "waits for $1 (bin/$me --help)"; status=0; dd bs=1 count=1 2>/dev/null || status=$?; }
     return $status
 }
 
@@ -155,9 +155,15 @@ bytes() { # WORD ..
         { for (i = 1; i <= NF; i++) printf "%s", octal[tolower($i)] }')"
 }
 
-# Whether these bytes, one or more, are hexadecimal text: digits, 0x, and what may stand between.
+# Whether these bytes are hexadecimal text: one digit or more, 0x, and what may stand between.
 is_hexadecimal() { # WORD ..
-    ! printf '%s\n' "$*" | tr -s ' ' '\n' | grep -qvxE '(3[0-9]|4[1-6]|6[1-6]|58|78|20|2c|09|0a|0d)?'
+    digit='3[0-9]|4[1-6]|6[1-6]'
+    printf '%s\n' "$*" | tr -s ' ' '\n' | grep -qxE "$digit" && ! printf '%s\n' "$*" | tr -s ' ' '\n' | grep -qvxE "($digit|58|78|20|2c|09|0a|0d)?"
+}
+
+# So many bytes, as text.
+counted() { # N
+    case $1 in 1) echo '1 byte' ;; *) echo "$1 bytes" ;; esac
 }
 
 # A refusal's number with its sentence, and where there is more about it.

@@ -1,5 +1,5 @@
-# What the tests of commands share: tests/bin and tests/archive read this file. They work in a folder of their own, `room`, which goes at the end.
-# The repository is `root`.
+# What the tests of commands share: tests/bin, tests/tray and tests/archive read this file. They work in a folder of their own, `room`, which goes at
+# the end. The repository is `root`.
 room=$(mktemp -d)
 trap 'rm -rf "$room"' EXIT
 trap 'exit 1' HUP INT TERM
@@ -41,6 +41,15 @@ says() {
 stops() {
     [ "$status" -eq "${3:-2}" ] && [ ! -s "$room/out" ] && [ "$(wc -l <"$room/err")" -eq 1 ] && grep -q -e "$2" "$room/err"
     result "$1" $?
+}
+
+# reads_on PROGRAM ANSWER: the program itself, run as its command runs it, answers a megabyte with this line, and its writer sees no broken pipe
+reads_on() {
+    { head -c 1000000 /dev/zero; echo $? >"$room/writer"; } | (me=tests && . "$root/bin/prove.sh" && find_kit && run "$1") >"$room/out" 2>"$room/err"
+    status=$?
+    is "a megabyte straight into the program $1" 0 "$2"
+    [ "$(cat "$room/writer")" = 0 ]
+    result "the program $1 reads it to its end" $?
 }
 
 # The last line, and the status.
