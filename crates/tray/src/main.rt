@@ -24,8 +24,8 @@ fn answer(profiles: &[u8]) -> bool {
     }
 }
 
-// The buffer has room for 2,049 profiles, one more than there is room for records. A longer input fills it, and is refused by 32 for that, as the whole of
-// it would be; any other input is in the buffer whole. So the answer is that of the call on all of standard input, however long that is.
+// The buffer has room for 2,049 profiles, one more than for records. What is longer is refused by 32, as the whole of it would be. So the answer is
+// the call's on all that was read to the end of standard input. A read that fails counts as that end: `bin/tray` notices it, and a failed write.
 fn main() {
     let mut bytes = [0u8; 20490];
     let n = input::read_whole(&mut bytes);
