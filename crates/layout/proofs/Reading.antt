@@ -10,11 +10,12 @@ use native.Mathlib.Omega.{arith}
 use borrow.Author.Tests.{ltb-false, lt-ltb}
 use lib.ListN.{length, getD, length-replicate}
 use lib.Dec.{ltb, eqb}
-use lib.Pow.{pow-pos, pow-add, shr-shr, mod-pow-add}
+use lib.Pow.{pow-pos, pow-add, shl-shr, shr-shr, shr-mod, mod-pow-add}
 use lib.Arith.{digits-div}
 use Rattle.answer.specs.Tools.{and-right}
 use Rattle.layout.specs.Layout.{total, unpack, pack, fitting, bytes, num, Bytes, packed}
 use Rattle.layout.specs.Bits.{bit, bitAt, bitsAt, cut, upTo}
+use Rattle.layout.specs.Order.{bits-split}
 use Rattle.layout.proofs.Laws.{pack-lt, pack-unpack, unpack-pack, fitting-unpack, length-unpack, num-unpack, total-bytes}
 
 -- a bit and its number
@@ -95,35 +96,62 @@ bits-number s b at (suc n) r h =
     ap₂ (λ (x y : ℕ). x * 2 + y) i k ∙ ap (λ (x : ℕ). x % 2 ^ n * 2 + v % 2) (sym (shr-shr (num s) r 1)) ∙ sym (mod-pow-add v n 1)
     ∙ ap (λ (m : ℕ). v % 2 ^ m) (add-one n)
 
--- at most eight bits lie in two bytes
-module _ (s : List ℕ) (at : ℕ) where
-  pair : List ℕ
-  pair = getD s (at / 8) 0 ∷ getD s (at / 8 + 1) 0 ∷ []
-
-  byte-in : (j : ℕ) → j < 2 → getD s (at / 8 + j) 0 ≡ getD pair j 0
-  unfolding pair
-  byte-in zero h = ap (λ (k : ℕ). getD s k 0) (omega arith)
-  byte-in (suc zero) h = refl
-  byte-in (suc (suc j)) h = absurd (omega arith)
-
-  bit-in : (n q : ℕ) → at % 8 + n ≡ q → q < 16 → bitAt s (at + n) ≡ bitAt pair q
+-- Bits that lie in the bytes w, which s has from the byte of the place `at` on.
+module _ (s : List ℕ) (at : ℕ) (w : List ℕ) (there : (j : ℕ) → j < length w → getD s (at / 8 + j) 0 ≡ getD w j 0) where
+  bit-in : (n q : ℕ) → at % 8 + n ≡ q → q < 8 * length w → bitAt s (at + n) ≡ bitAt w q
   bit-in n q e h =
       let j : (at + n) / 8 ≡ at / 8 + q / 8 = omega arith in
       let p : (at + n) % 8 ≡ q % 8 = omega arith in
-      rw (j, p, byte-in (q / 8) (omega arith))
+      rw (j, p, there (q / 8) (omega arith))
 
-  bits-in : (n : ℕ) → at % 8 + n ≤ 16 → bitsAt s at n ≡ bitsAt pair (at % 8) n
+  bits-in : (n : ℕ) → at % 8 + n ≤ 8 * length w → bitsAt s at n ≡ bitsAt w (at % 8) n
   unfolding bitsAt
   bits-in zero h = refl
   bits-in (suc n) h = ap₂ (λ (x y : ℕ). x * 2 + y) (bits-in n (omega arith)) (bit-in n (at % 8 + n) refl (omega arith))
 
+  bits-of : Bytes w → (n r : ℕ) → at % 8 + n + r ≡ 8 * length w → bitsAt s at n ≡ num w / 2 ^ r % 2 ^ n
+  bits-of b n r l = bits-in n (omega arith) ∙ bits-number w b (at % 8) n r l
+
+-- the bits of one byte, or of two
+module _ (s : List ℕ) (at : ℕ) where
+  first : (a : ℕ) → a ≡ getD s (at / 8) 0 → getD s (at / 8 + 0) 0 ≡ a
+  first a e = ap (λ (k : ℕ). getD s k 0) (omega arith) ∙ sym e
+
+  one : (a : ℕ) → a ≡ getD s (at / 8) 0 → (j : ℕ) → j < 1 → getD s (at / 8 + j) 0 ≡ getD (a ∷ []) j 0
+  one a e zero h = first a e
+  one a e (suc j) h = absurd (omega arith)
+
+  bits-of-one : (a n r : ℕ) → a ≡ getD s (at / 8) 0 → a < 256 → at % 8 + n + r ≡ 8 → bitsAt s at n ≡ a / 2 ^ r % 2 ^ n
+  bits-of-one a n r e h l =
+      let v : num (a ∷ []) ≡ a = omega arith in
+      bits-of s at (a ∷ []) (one a e) (simp (lt-ltb a 256 h)) n r l ∙ ap (λ (x : ℕ). x / 2 ^ r % 2 ^ n) v
+
+  two : (a b : ℕ) → a ≡ getD s (at / 8) 0 → b ≡ getD s (at / 8 + 1) 0 → (j : ℕ) → j < 2 → getD s (at / 8 + j) 0 ≡ getD (a ∷ b ∷ []) j 0
+  two a b e f zero h = first a e
+  two a b e f (suc zero) h = sym f
+  two a b e f (suc (suc j)) h = absurd (omega arith)
+
   pub bits-of-two : (a b n r : ℕ) → a ≡ getD s (at / 8) 0 → b ≡ getD s (at / 8 + 1) 0 → a < 256 → b < 256 → at % 8 + n + r ≡ 16
       → bitsAt s at n ≡ (a * 256 + b) / 2 ^ r % 2 ^ n
-  unfolding pair
   bits-of-two a b n r e f h k l =
-      let i : Bytes pair = rw (sym e, sym f) (simp (lt-ltb a 256 h, lt-ltb b 256 k)) in
-      let v : num pair ≡ a * 256 + b = rw (sym e, sym f) (omega arith) in
-      bits-in n (omega arith) ∙ bits-number pair i (at % 8) n r l ∙ ap (λ (x : ℕ). x / 2 ^ r % 2 ^ n) v
+      let v : num (a ∷ b ∷ []) ≡ a * 256 + b = omega arith in
+      bits-of s at (a ∷ b ∷ []) (two a b e f) (simp (lt-ltb a 256 h, lt-ltb b 256 k)) n r l ∙ ap (λ (x : ℕ). x / 2 ^ r % 2 ^ n) v
+
+-- the bits of a byte from a place on
+pub rest-of-byte : (s : List ℕ) (at a : ℕ) → a ≡ getD s (at / 8) 0 → a < 256 → a % 2 ^ (8 - at % 8) ≡ bitsAt s at (8 - at % 8)
+rest-of-byte s at a e h = sym (bits-of-one s at a (8 - at % 8) 0 e h (omega arith) ∙ ap (λ (x : ℕ). x % 2 ^ (8 - at % 8)) (omega arith))
+
+-- the first bits of a byte
+pub first-bits : (s : List ℕ) (j a k r : ℕ) → a ≡ getD s j 0 → a < 256 → k + r ≡ 8 → a * 2 ^ k / 256 ≡ bitsAt s (8 * j) k
+first-bits s j a k r e h l =
+    let f : a ≡ getD s (8 * j / 8) 0 = e ∙ ap (λ (i : ℕ). getD s i 0) (omega arith) in
+    let b : a < 2 ^ (k + r) = rw l h in
+    let d : a * 2 ^ k / 2 ^ (k + r) ≡ a / 2 ^ r = sym (shr-shr (a * 2 ^ k) k r) ∙ ap (λ (x : ℕ). x / 2 ^ r) (shl-shr a k) in
+    ap (λ (n : ℕ). a * 2 ^ k / 2 ^ n) (sym l) ∙ d ∙ sym (bits-of-one s (8 * j) a k r f h (omega arith) ∙ shr-mod k r b)
+
+-- m bits up to the byte j, and the first k of it
+pub bits-on : (s : List ℕ) (at m k j : ℕ) → at + m ≡ 8 * j → bitsAt s at m * 2 ^ k + bitsAt s (8 * j) k ≡ bitsAt s at (m + k)
+bits-on s at m k j e = ap (λ (p : ℕ). bitsAt s at m * 2 ^ k + bitsAt s p k) (sym e) ∙ sym (bits-split s at m k)
 
 -- the fields at a layout's places are those of the number
 cut-from : (ws s : List ℕ) → Bytes s → (at : ℕ) → at + total ws ≡ 8 * length s → cut ws s at ≡ unpack ws (num s)

@@ -1,9 +1,9 @@
 // Records packed most significant bit first: a layout is the list of its fields' widths.
 ghost use mathlib.Core.Path.{_≡_};
 ghost use mathlib.Core.List.{[], _∷_};
-ghost use Prim.Native.Nat.{_+_, _*_, _^_, _≤_, _<_};
+ghost use Prim.Native.Nat.{_-_, _*_, _%_, _^_, _≤_, _<_};
 ghost use lib.ListN.{length, getD};
-ghost use Rattle.layout.specs.Bits.{bitAt, bitsAt, flagAt, upTo, fieldAt, loaded};
+ghost use Rattle.layout.specs.Bits.{bitsAt, flagAt, upTo, fieldAt, loaded};
 ghost use Rattle.layout.specs.Layout.{num, unpack, bytes, fieldFits, storable};
 ghost use Rattle.layout.specs.Gathered.{Fits, Gathers};
 ghost use Rattle.layout.specs.Stored.{Stored};
@@ -44,13 +44,19 @@ fn byte(s: &[u8], j: usize) -> u64
     if j < s.len() { wide(s[j]) } else { 0 }
 }
 
-// The bit at place k, counted from the first bit of the byte `start`. Past the end it is 0.
-fn bit(s: &[u8], start: usize, k: usize) -> u64
-    requires { ⌜ (start ≤ 2 ^ 61) × (k < 72) ⌝ }
-    ensures { λ r. ⌜ (r ≡ bitAt (now (s .entry)) (start * 8 + k)) × (r < 2) ⌝ }
+// The bits from place `at` to the end of its byte.
+fn rest_of_byte(s: &[u8], at: usize) -> u64
+    ensures { λ r. ⌜ r ≡ bitsAt (now (s .entry)) at (8 - at % 8) ⌝ }
 {
-    let q = (7 - k % 8) as u8;
-    byte(s, start + k / 8) / two(q) % 2
+    byte(s, at / 8) % two((8 - at % 8) as u8)
+}
+
+// The first k bits of the byte j: moved up by k places, they are what stands above eight bits.
+fn first_bits(s: &[u8], j: usize, k: u8) -> u64
+    requires { ⌜ k ≤ 8 ⌝ }
+    ensures { λ r. ⌜ r ≡ bitsAt (now (s .entry)) (8 * j) k ⌝ }
+{
+    byte(s, j) * two(k) / 256
 }
 
 // The number that `count` bits from place `at` on spell, most significant bit first; place 0 is the first byte's most significant bit.
@@ -59,16 +65,24 @@ pub fn bits(s: &[u8], at: usize, count: usize) -> u64
     ensures { λ r. ⌜ r ≡ bitsAt (now (s .entry)) at (upTo 64 count) ⌝ }
 {
     let n = up_to(64, count);
-    // `at + i` could pass the end of usize. So the bits are counted from the byte that holds `at`.
+    // Up to eight bits may end in the byte in which they begin.
+    if n <= 8 {
+        return wide(code(s, at, n));
+    }
+    // The rest of the first byte, then whole bytes, then the leftover bits: the first ones of the next byte.
+    // `at + n` could pass the end of usize. So places and bytes are counted from the byte that holds `at`.
     let start = at / 8;
-    let skip = at % 8;
-    let mut v: u64 = 0;
-    let mut i = 0;
-    while i < n {
-        v = v * 2 + bit(s, start, skip + i);
+    let end = at % 8 + n;
+    // The bytes that are read to their end, the first among them.
+    let whole = end / 8;
+    let mut v = rest_of_byte(s, at);
+    let mut i = 1;
+    while i < whole {
+        v = v * 256 + byte(s, start + i);
         i += 1;
     }
-    v
+    let leftover = (end % 8) as u8;
+    v * two(leftover) + first_bits(s, start + whole, leftover)
 }
 
 // Is the bit at place `at` set? Past the end it is not.
