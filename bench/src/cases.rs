@@ -1,7 +1,7 @@
 //! What is measured: for each line of the table our side and the Rust's.
 
 use crate::inputs::{Bad, Good, Inputs, Port, Tray, BOARDS, PORTS};
-use crate::{ours, theirs};
+use crate::{fast, ours, theirs};
 use std::panic::catch_unwind;
 
 /// What of a run is a call's cost.
@@ -77,6 +77,22 @@ fn check(profile: &[u8; 10]) {
     keep((ours::check(profile, &mut out), out));
 }
 
+fn fast_check(profile: &[u8; 10]) {
+    let mut out = ours::NONE;
+    keep((fast::fast_check(profile, &mut out), out));
+}
+
+/// 32 bits of a profile, from each place of its first byte on.
+fn words(inputs: &Inputs, bits: fn(&[u8], usize, usize) -> u64) -> u32 {
+    const PLACES: u32 = 8;
+    let calls = each(&inputs.good, |g| {
+        for place in 0..PLACES as usize {
+            keep(bits(&g.profile, opaque(place), opaque(32)));
+        }
+    });
+    calls * PLACES
+}
+
 /// A call for a whole tray.
 fn tray(tray: &Tray) -> u32 {
     each(&[tray], |tray| {
@@ -133,16 +149,14 @@ fn checks() -> Vec<Case> {
             theirs: Some(inner(Cost::ToPanic("theirs_check"), |i| each(&i.bad, caught))),
         },
         Case {
-            name: "profile read and check, accepted (oracle)",
+            name: "profile read and check, accepted (fast)",
             ours: call("wontabeli_check", |i| each(&i.good, |g| check(&g.profile))),
-            theirs: Some(call("theirs_read_and_check", |i| {
-                each(&i.good, |g| keep(theirs::theirs_read_and_check(&g.profile)))
-            })),
+            theirs: Some(call("fast_check", |i| each(&i.good, |g| fast_check(&g.profile)))),
         },
         Case {
-            name: "profile read and check, refused",
+            name: "profile read and check, refused (fast)",
             ours: call("wontabeli_check", |i| each(&i.bad, |b| check(&b.profile))),
-            theirs: None,
+            theirs: Some(call("fast_check", |i| each(&i.bad, |b| fast_check(&b.profile)))),
         },
     ]
 }
@@ -196,18 +210,42 @@ fn decodes() -> Vec<Case> {
     ]
 }
 
-fn codecs() -> Vec<Case> {
+/// The bit reader, and the readers of both records, which are functions of their own inside `wontabeli_check` and `wontabeli_decode`.
+fn readers() -> Vec<Case> {
     vec![
         Case {
-            name: "profile read (oracle)",
+            name: "32 bits at any place (fast)",
+            ours: call("bench_bits", |i| words(i, ours::bits)),
+            theirs: Some(call("fast_bits", |i| words(i, fast::fast_bits))),
+        },
+        Case {
+            name: "profile read alone",
+            ours: inner(Cost::Call(ours::READ_PROFILE), |i| each(&i.good, |g| check(&g.profile))),
+            theirs: None,
+        },
+        Case {
+            name: "image read alone",
+            ours: inner(Cost::Call(ours::READ_IMAGE), |i| each(&i.good, decode)),
+            theirs: None,
+        },
+    ]
+}
+
+fn profile_codec() -> Vec<Case> {
+    vec![
+        Case {
+            name: "profile read (fast)",
             ours: call("wontabeli_read_profile", |i| {
                 each(&i.good, |g| {
                     let mut out = [0; 24];
                     keep((ours::read_profile(&g.profile, &mut out), out));
                 })
             }),
-            theirs: Some(call("theirs_read_profile", |i| {
-                each(&i.good, |g| keep(theirs::theirs_read_profile(&g.profile)))
+            theirs: Some(call("fast_read_profile", |i| {
+                each(&i.good, |g| {
+                    let mut out = [0; 24];
+                    keep((fast::fast_read_profile(&g.profile, &mut out), out));
+                })
             })),
         },
         Case {
@@ -222,6 +260,11 @@ fn codecs() -> Vec<Case> {
                 each(&i.good, |g| keep(theirs::theirs_write_profile(&g.bytes)))
             })),
         },
+    ]
+}
+
+fn image_codec() -> Vec<Case> {
+    vec![
         Case {
             name: "image read (oracle)",
             ours: call("wontabeli_read_image", |i| {
@@ -288,7 +331,9 @@ pub fn cases() -> Vec<Case> {
     let mut cases = checks();
     cases.append(&mut trays());
     cases.append(&mut decodes());
-    cases.append(&mut codecs());
+    cases.append(&mut readers());
+    cases.append(&mut profile_codec());
+    cases.append(&mut image_codec());
     cases.append(&mut startups());
     cases.append(&mut serials());
     cases

@@ -1,7 +1,7 @@
 //! Both sides' answers to every input, which must be the same before anything is measured.
 
-use crate::inputs::{Bad, Good, Inputs, Port, Profile, Tray, BOARDS, PORTS};
-use crate::{ours, theirs};
+use crate::inputs::{Bad, Good, Inputs, Port, Profile, Tray, ACCEPTED, BOARDS, PORTS, REFUSED};
+use crate::{fast, ours, theirs};
 use std::fmt::Debug;
 use std::panic::catch_unwind;
 
@@ -105,10 +105,70 @@ fn port(p: &Port) -> bool {
     right
 }
 
+/// The fast peer's answers to a profile, and what it leaves in lent words and bytes, are ours.
+fn same_as_fast(profile: &[u8], words: usize, bytes: usize) -> bool {
+    type Check = fn(&[u8], &mut [u32]) -> u8;
+    type Read = fn(&[u8], &mut [u8]) -> u8;
+    let answers = |check: Check, read: Read| {
+        let (mut checked, mut fields) = ([1; 9], [1; 26]);
+        let number = check(profile, &mut checked[..words]);
+        (number, checked, read(profile, &mut fields[..bytes]), fields)
+    };
+    let mine = answers(ours::check, ours::read_profile);
+    let peers = answers(fast::fast_check, fast::fast_read_profile);
+    same(&format!("{:02x?}", profile), "the fast peer", mine, peers)
+}
+
+/// Numbers that look random, the same at every run.
+fn scattered(state: &mut u64) -> usize {
+    *state = state.wrapping_mul(6_364_136_223_846_793_005).wrapping_add(1);
+    (*state >> 33) as usize
+}
+
+/// The listed profiles with up to three bits turned over. One in ten has another length, up to twelve bytes, and lends what may be too short or too long.
+fn fast_profiles() -> bool {
+    const PROFILES: usize = 100_000;
+    let refused = REFUSED.iter().map(|row| row.1);
+    let listed: Vec<Profile> = ACCEPTED.iter().map(|row| row.1).chain(refused).collect();
+    let mut state = 1;
+    let mut below = |limit: usize| scattered(&mut state) % limit;
+    let differing = (0..PROFILES).filter(|k| {
+        let mut bytes = [0; 12];
+        bytes[..10].copy_from_slice(&listed[k % listed.len()]);
+        for _ in 0..below(4) {
+            let bit = below(80);
+            bytes[bit / 8] ^= 1 << (bit % 8);
+        }
+        if k % 10 == 0 {
+            !same_as_fast(&bytes[..below(13)], below(10), below(27))
+        } else {
+            !same_as_fast(&bytes[..10], 7, 24)
+        }
+    });
+    differing.take(8).count() == 0
+}
+
+/// The bit reader at every place of up to 16 bytes and past their end, and at the last places of all, with every count up to 70.
+fn fast_bits() -> bool {
+    let mut state = 1;
+    let bytes: Vec<u8> = (0..16).map(|_| scattered(&mut state) as u8).collect();
+    let places = (0..150).chain([usize::MAX - 63, usize::MAX - 7, usize::MAX]);
+    let asked = places.flat_map(|at| (0..=70).chain([usize::MAX]).map(move |count| (at, count)));
+    let questions = asked.flat_map(|(at, count)| (0..=16).map(move |length| (length, at, count)));
+    let differing = questions.filter(|(length, at, count)| {
+        let s = &bytes[..*length];
+        let question = format!("{} bits from place {} of {:02x?}", count, at, s);
+        let answers = (ours::bits(s, *at, *count), fast::fast_bits(s, *at, *count));
+        !same(&question, "the bit reader", answers.0, answers.1)
+    });
+    differing.take(8).count() == 0
+}
+
 pub fn same_answers(inputs: &Inputs) -> bool {
     let good = inputs.good.iter().filter(|g| !good(g)).count();
     let bad = inputs.bad.iter().filter(|b| !bad(b)).count();
     let ports = PORTS.iter().filter(|p| !port(p)).count();
     let trays = tray(inputs, &inputs.good_tray) & tray(inputs, &inputs.bad_tray);
-    trays && good + bad + ports == 0
+    let fast = fast_profiles() & fast_bits();
+    trays && fast && good + bad + ports == 0
 }

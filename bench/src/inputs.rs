@@ -121,7 +121,7 @@ pub struct Inputs {
 }
 
 fn bytes_of(profile: &Profile) -> [u8; CONFIG] {
-    theirs::theirs_read_profile(profile).expect("a profile that can be read")
+    theirs::config_bytes(profile).expect("a profile that can be read")
 }
 
 /// The startup of a profile before a step.

@@ -3,6 +3,7 @@
 mod callgrind;
 mod cases;
 mod compare;
+mod fast;
 mod inputs;
 mod ours;
 mod paper;
@@ -17,10 +18,10 @@ use std::process::exit;
 
 const USAGE: &str = "usage: bench same                    status 1 where the two sides' answers differ
        bench calls                   every call of the table, for callgrind to count
-       bench table COUNTS            the table, from callgrind's files COUNTS.1, COUNTS.2, .., and nanoseconds, measured now; then whether a tray
-                                     keeps within its instructions
-       bench ratios COUNTS DOCUMENT  status 1 where a ratio of instructions is not the document's, or a tray takes more than it may
-       bench ours COUNTS DOCUMENT    status 1 where our instructions are not the document's, or a tray takes more than it may";
+       bench table COUNTS            the table, from callgrind's files COUNTS.1, COUNTS.2, .., and nanoseconds, measured now; then whether what
+                                     has a limit keeps within it
+       bench ratios COUNTS DOCUMENT  status 1 where a ratio of instructions is not the document's, or a line is above its limit
+       bench ours COUNTS DOCUMENT    status 1 where our instructions are not the document's, or a line is above its limit";
 
 fn agrees(counts: &str, path: &str, inputs: &Inputs, held: table::Held) -> Result<bool, String> {
     let document = std::fs::read_to_string(path).map_err(|error| format!("{}: {}", path, error))?;

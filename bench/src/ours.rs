@@ -18,6 +18,8 @@ extern "C" {
     ) -> u8;
     fn wontabeli_step(place: *mut u8, place_len: usize, reading: u16) -> u8;
     fn wontabeli_serial_divisor(pclk: u32, rate: u32, brr: *mut u16, error: *mut i32) -> u8;
+    /// `layout::bits`, which is no call of the header: bench/run makes it one.
+    fn bench_bits(s: *const u8, s_len: usize, at: usize, count: usize) -> u64;
 }
 
 pub type Checked = [u32; 7];
@@ -36,9 +38,10 @@ const IMAGE: usize = 10;
 pub const STEP: usize = 18;
 const PHASE: usize = 27;
 
-/// The inner functions that cost is asked of, as the archives name them: the check, the decoder, the image's reader.
+/// The inner functions that cost is asked of, as the archives name them: the check, the decoder, the readers.
 pub const CHECK: &str = "v4x7::Config::clocks";
 pub const DECODE: &str = "decoder::decode";
+pub const READ_PROFILE: &str = "profile::read_profile";
 pub const READ_IMAGE: &str = "image::read_image";
 
 /// The frequencies of an answer.
@@ -47,7 +50,12 @@ pub fn numbers(out: &[u32]) -> Vec<u32> {
 }
 
 #[inline]
-pub fn check(profile: &[u8; 10], out: &mut Checked) -> u8 {
+pub fn bits(s: &[u8], at: usize, count: usize) -> u64 {
+    unsafe { bench_bits(s.as_ptr(), s.len(), at, count) }
+}
+
+#[inline]
+pub fn check(profile: &[u8], out: &mut [u32]) -> u8 {
     unsafe { wontabeli_check(profile.as_ptr(), profile.len(), out.as_mut_ptr(), out.len()) }
 }
 
@@ -77,7 +85,7 @@ pub fn decode(image: &[u8; 8], hse: u32, out: &mut Decoded) -> u8 {
 }
 
 #[inline]
-pub fn read_profile(profile: &[u8; 10], out: &mut ProfileFields) -> u8 {
+pub fn read_profile(profile: &[u8], out: &mut [u8]) -> u8 {
     unsafe { wontabeli_read_profile(profile.as_ptr(), profile.len(), out.as_mut_ptr(), out.len()) }
 }
 

@@ -95,30 +95,34 @@ pub fn print(lines: &[Line]) {
 const TRAYS: [(&str, &str); 2] = [
     (
         "tray of 400 boards, accepted",
-        "profile read and check, accepted (oracle)",
+        "profile read and check, accepted (fast)",
     ),
-    ("tray of 400 boards, refused", "profile read and check, refused"),
+    ("tray of 400 boards, refused", "profile read and check, refused (fast)"),
 ];
 /// What a board of a tray may take beside its read and check.
 const BESIDE: f64 = 100.0;
+/// What a call of the readers may take.
+const READERS: [(&str, f64); 2] = [("32 bits at any place (fast)", 64.0), ("profile read alone", 350.0)];
 
-/// Whether a tray takes no more than its boards may, in a sentence and as a yes or no.
+/// Whether no line is above its limit: for each that has one a sentence, and a yes or no.
 fn budgets(lines: &[Line]) -> Vec<(String, bool)> {
     let ours = |name: &str| {
         let line = lines.iter().find(|line| line.name == name);
         line.and_then(|line| line.instructions[0]).expect("a line of the table")
     };
-    let budget = |(tray, one): &(&str, &str)| {
-        let (whole, one) = (ours(tray), ours(one));
-        let most = BOARDS as f64 * (one + BESIDE);
-        let word = if whole <= most { "within" } else { "MORE THAN" };
-        let sentence = format!(
-            "{}: {:.0}, {} {} x ({:.2} + {:.0}), which is {:.0}.",
-            tray, whole, word, BOARDS, one, BESIDE, most
-        );
-        (sentence, whole <= most)
+    let budget = |name: &str, most: f64, reason: String| {
+        let takes = ours(name);
+        let word = if takes <= most { "within" } else { "MORE THAN" };
+        (format!("{}: {:.0}, {} {}.", name, takes, word, reason), takes <= most)
     };
-    TRAYS.iter().map(budget).collect()
+    let tray = |(tray, one): &(&str, &str)| {
+        let one = ours(one);
+        let most = BOARDS as f64 * (one + BESIDE);
+        let reason = format!("{} x ({:.2} + {:.0}), which is {:.0}", BOARDS, one, BESIDE, most);
+        budget(tray, most, reason)
+    };
+    let reader = |(name, most): &(&str, f64)| budget(name, *most, format!("{:.0}", most));
+    TRAYS.iter().map(tray).chain(READERS.iter().map(reader)).collect()
 }
 
 /// The sentences, below the table.

@@ -27,10 +27,8 @@ pub fn theirs_startup(config: &Config) {
     start(*config)
 }
 
-/// The bytes of the configuration where the profile is allowed.
-#[no_mangle]
-#[inline(never)]
-pub fn theirs_read_profile(profile: &[u8; 10]) -> Option<[u8; CONFIG]> {
+/// The bytes of the configuration where the profile is allowed, by the oracle's reader.
+pub fn config_bytes(profile: &[u8; 10]) -> Option<[u8; CONFIG]> {
     let (config, filling) = layout::config_of(profile);
     let allowed = filling == 0 && codec::plain(&config) == config && codes::named(&config);
     if allowed {
@@ -38,12 +36,6 @@ pub fn theirs_read_profile(profile: &[u8; 10]) -> Option<[u8; CONFIG]> {
     } else {
         None
     }
-}
-
-#[no_mangle]
-#[inline(never)]
-pub fn theirs_read_and_check(profile: &[u8; 10]) -> Option<rcc::Clocks> {
-    theirs_read_profile(profile).map(|bytes| config_of(&bytes).clocks())
 }
 
 #[no_mangle]
