@@ -118,8 +118,8 @@ uint8_t wontabeli_call_bound(const uint8_t *profile, size_t profile_len, uint32_
 
 /* ---- CH32V1 (V1_PART_V1) and CH32L1 (V1_PART_L1) ----
  *
- * A configuration has V1_CONFIG_SIZE bytes, at the places V1_CONFIG_..; the multiplier is a V1_PLL_.. code, AHB a V1_AHB_.. code. Where HSE or the
- * PLL is absent, its other bytes are zero; PLL_FROM_HSE is free.
+ * A configuration has V1_CONFIG_SIZE bytes, at the places V1_CONFIG_..; the multiplier is a V1_PLL_.. code, AHB a V1_AHB_.. code (there is no
+ * DIV32). Where HSE or the PLL is absent, its other bytes are zero; PLL_FROM_HSE is free.
  * The registers' fields have V1_FIELDS_SIZE bytes, at the places V1_FIELDS_..; the HSI predivider bit is 1 for HSI by 1, and 0 for HSI by 2.
  * All three calls are refused by 32, then by 28: another part or length, a byte that is neither yes nor no, a byte of an absent part that is not
  * zero, a code too wide for its field. */
@@ -139,9 +139,9 @@ uint8_t wontabeli_v1_init_fields(uint8_t part, const uint8_t *config, size_t con
 /* ---- CH32V30x ----
  *
  * A configuration has V30X_CONFIG_SIZE bytes, at the places V30X_CONFIG_..: PLL_SOURCE a V30X_PLL_SOURCE_.. code, PREDIVIDER a
- * V30X_PLL_PREDIVIDER_.. code, MULTIPLIER a V30X_PLL_.. code, AHB a V30X_AHB_.. code, USBHS_PRESCALER a V30X_USBHS_.. code; PLLX is 1 where PLL2 or
- * PLL3 is asked for. Where HSE, the PLL or the USBHS PLL is absent, its other bytes are zero; PLL_SOURCE and USBHS_FROM_HSE are free. The
- * registers' fields have V30X_FIELDS_SIZE bytes, at the places V30X_FIELDS_... All three calls are refused by 32 and 28 as V1's are. */
+ * V30X_PLL_PREDIVIDER_.. code, MULTIPLIER a V30X_PLL_.. code, AHB a V30X_AHB_.. code (there is no DIV32), USBHS_PRESCALER a V30X_USBHS_.. code; PLLX
+ * is 1 where PLL2 or PLL3 is asked for. Where HSE, the PLL or the USBHS PLL is absent, its other bytes are zero; PLL_SOURCE and USBHS_FROM_HSE are
+ * free. The registers' fields have V30X_FIELDS_SIZE bytes, at the places V30X_FIELDS_... All three calls are refused by 32 and 28 as V1's are. */
 
 /* As V1's. The check is then refused by 27, 3, 24, 25, 3, 8, 20, 3, 26; the decoder by 27, 3, 24. */
 uint8_t wontabeli_v30x_check(const uint8_t *config, size_t config_len, uint32_t *out, size_t out_len);

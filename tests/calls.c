@@ -406,6 +406,29 @@ static void v30x_codes(void)
     }
 }
 
+/* AHB codes 12 to 15 divide by 64, 128, 256 and 512 (document 02, K4): HCLK of HSI's 8 MHz, by check and decoder. The buses by 1 and by 2. */
+static void skipping_32(void)
+{
+    static const uint32_t hclk[4] = {125000, 62500, 31250, 15625};
+    uint8_t c[WONTABELI_V1_CONFIG_SIZE] = {0}, d[WONTABELI_V30X_CONFIG_SIZE] = {0}, f[WONTABELI_V1_FIELDS_SIZE] = {0}, g[WONTABELI_V30X_FIELDS_SIZE] = {0};
+    uint8_t part, n;
+    c[WONTABELI_V1_CONFIG_APB2] = d[WONTABELI_V30X_CONFIG_APB2] = f[WONTABELI_V1_FIELDS_PPRE2] = g[WONTABELI_V30X_FIELDS_PPRE2] = 4;
+    for (n = 0; n < 4; n++) {
+        uint32_t h = hclk[n], half = h / 2;
+        c[WONTABELI_V1_CONFIG_AHB] = d[WONTABELI_V30X_CONFIG_AHB] = f[WONTABELI_V1_FIELDS_HPRE] = g[WONTABELI_V30X_FIELDS_HPRE] = 12 + n;
+        for (part = 0; part < 2; part++) {
+            IS(wontabeli_v1_check(part, c, sizeof c, out, 7), 0);
+            clocks(__LINE__, 8000000, h, h, half, h, 2 * half);
+            IS(wontabeli_v1_decode(part, f, sizeof f, 0, out, 6), 0);
+            clocks(__LINE__, 8000000, h, h, half, h, 2 * half);
+        }
+        IS(wontabeli_v30x_check(d, sizeof d, out, 7), 0);
+        clocks(__LINE__, 8000000, h, h, half, h, 2 * half);
+        IS(wontabeli_v30x_decode(g, sizeof g, 0, out, 6), 0);
+        clocks(__LINE__, 8000000, h, h, half, h, 2 * half);
+    }
+}
+
 static void h4(void)
 {
     IS(wontabeli_h4_clocks(400000000, 8, 2, 4, 5, out, 7), 0);
@@ -550,6 +573,7 @@ int main(void)
     v1_codes();
     v30x();
     v30x_codes();
+    skipping_32();
     h4();
     serial();
     trays();

@@ -201,6 +201,14 @@ fn families() {
     let whole = v1::Config { pll: Some(v1::Pll { halved: false, mul: v1::PllMul::Mul16Or18 }), ..config };
     assert_eq!(v1::check(v1::Part::V1, &whole).map(|x| x.clocks.sysclk), Ok(192_000_000));
     assert_eq!(v1::check(v1::Part::L1, &whole).map(|x| x.clocks.sysclk), Ok(216_000_000));
+    // AHB code 12: 54 MHz by 64
+    let slow = v1::Config { ahb_pre: v1::AhbPrescaler::Div64, ..config };
+    let slow_fields = v1::init_fields(v1::Part::V1, &slow, &[0; V1_FIELDS_SIZE]).unwrap();
+    assert_eq!(slow_fields[V1_FIELDS_HPRE], 12);
+    for part in [v1::Part::V1, v1::Part::L1] {
+        assert_eq!(v1::check(part, &slow).map(|x| x.clocks.hclk), Ok(843_750));
+        assert_eq!(v1::decode(part, &slow_fields, hz).map(|x| x.hclk), Ok(843_750));
+    }
     // 12 MHz x 6 is 72 MHz, by 1.5
     let usb = v1::Config { pll: Some(v1::Pll { halved: false, mul: v1::PllMul::Mul6 }), ..config };
     assert_eq!(v1::check(v1::Part::V1, &usb).map(|x| x.usb_divisor_x2), Ok(Some(3)));
@@ -222,6 +230,12 @@ fn families() {
     assert_eq!(fields, [2, 1, 1, 0, 0, 8, 0, 4, 0]);
     assert_eq!(v30x::decode(&fields, hz), Ok(run));
     assert_eq!(v30x::check(&v30x::Config { pllx: true, ..config }), Err(Refusal::Pll2OrPll3));
+    // AHB code 15: 108 MHz by 512
+    let slow = v30x::Config { ahb_pre: v30x::AhbPrescaler::Div512, ..config };
+    let slow_fields = v30x::init_fields(&slow, &[0; V30X_FIELDS_SIZE]).unwrap();
+    assert_eq!(slow_fields[V30X_FIELDS_HPRE], 15);
+    assert_eq!(v30x::check(&slow).map(|x| x.clocks.hclk), Ok(210_937));
+    assert_eq!(v30x::decode(&slow_fields, hz).map(|x| x.hclk), Ok(210_937));
     let whole = v30x::Config { pll: Some(v30x::Pll { prediv: v30x::PllPreDiv::Div1, mul: v30x::PllMul::Mul12 }), ..config };
     assert_eq!(v30x::check(&whole).map(|x| x.usb_divisor_x2), Ok(Some(6)));
 

@@ -8,10 +8,12 @@
 
 uint8_t __real_wontabeli_start(const uint8_t *profile, size_t profile_len, const uint8_t *image, size_t image_len, uint8_t *place, size_t place_len);
 uint8_t __real_wontabeli_step(uint8_t *place, size_t place_len, uint16_t reading);
+uint8_t __real_wontabeli_v1_check(uint8_t part, const uint8_t *config, size_t config_len, uint32_t *out, size_t out_len);
 uint8_t __real_wontabeli_v1_decode(uint8_t part, const uint8_t *fields, size_t fields_len, uint32_t hse, uint32_t *out, size_t out_len);
 uint8_t __real_wontabeli_v1_init_fields(uint8_t part, const uint8_t *config, size_t config_len, const uint8_t *earlier, size_t earlier_len,
     uint8_t *out, size_t out_len);
 uint8_t __real_wontabeli_v30x_check(const uint8_t *config, size_t config_len, uint32_t *out, size_t out_len);
+uint8_t __real_wontabeli_v30x_decode(const uint8_t *fields, size_t fields_len, uint32_t hse, uint32_t *out, size_t out_len);
 uint8_t __real_wontabeli_serial_divisor(uint32_t pclk, uint32_t rate, uint16_t *brr, int32_t *error);
 uint8_t __real_wontabeli_tray(const uint8_t *profiles, size_t profiles_len, uint8_t *out, size_t out_len);
 
@@ -50,9 +52,26 @@ uint8_t __wrap_wontabeli_step(uint8_t *place, size_t place_len, uint16_t reading
     return number;
 }
 
+/* HCLK and what lies below it, where the AHB divides by half. */
+static void twice_below(uint32_t *out)
+{
+    int i;
+    for (i = WONTABELI_HCLK; i <= WONTABELI_PCLK2_TIM; i++)
+        out[i] *= 2;
+}
+
+uint8_t __wrap_wontabeli_v1_check(uint8_t part, const uint8_t *config, size_t config_len, uint32_t *out, size_t out_len)
+{
+    uint8_t number = __real_wontabeli_v1_check(part, config, config_len, out, out_len);
+    /* 32: AHB code 12 still by 32 */
+    if (mistake(32) && number == 0 && config[11] == 12)
+        twice_below(out);
+    return number;
+}
+
 uint8_t __wrap_wontabeli_v1_decode(uint8_t part, const uint8_t *fields, size_t fields_len, uint32_t hse, uint32_t *out, size_t out_len)
 {
-    uint8_t f[V1];
+    uint8_t number, f[V1];
     memcpy(f, fields, sizeof f);
     /* 7: part 2 taken for L1; 8: an HSI byte of 2 taken for 1; 9: the HSI byte inverted, here and in what is written */
     if (mistake(7) && part == 2)
@@ -61,7 +80,11 @@ uint8_t __wrap_wontabeli_v1_decode(uint8_t part, const uint8_t *fields, size_t f
         f[7] = 1;
     if (mistake(9) && f[7] < 2)
         f[7] = !f[7];
-    return __real_wontabeli_v1_decode(part, f, fields_len, hse, out, out_len);
+    number = __real_wontabeli_v1_decode(part, f, fields_len, hse, out, out_len);
+    /* 28: HPRE 12 still by 32; 29: HPRE 13 by 64, as HPRE 12 */
+    if (number == 0 && ((mistake(28) && f[4] == 12) || (mistake(29) && f[4] == 13)))
+        twice_below(out);
+    return number;
 }
 
 uint8_t __wrap_wontabeli_v1_init_fields(uint8_t part, const uint8_t *config, size_t config_len, const uint8_t *earlier, size_t earlier_len,
@@ -88,14 +111,27 @@ uint8_t __wrap_wontabeli_v1_init_fields(uint8_t part, const uint8_t *config, siz
 
 uint8_t __wrap_wontabeli_v30x_check(const uint8_t *config, size_t config_len, uint32_t *out, size_t out_len)
 {
-    uint8_t c[WONTABELI_V30X_CONFIG_SIZE];
+    uint8_t number, c[WONTABELI_V30X_CONFIG_SIZE];
     memcpy(c, config, sizeof c);
     /* 13: the PLL's sources swapped; 14: the USBHS PLL's */
     if (mistake(13) && c[7] < 2)
         c[7] = !c[7];
     if (mistake(14) && c[15] < 2)
         c[15] = !c[15];
-    return __real_wontabeli_v30x_check(c, config_len, out, out_len);
+    number = __real_wontabeli_v30x_check(c, config_len, out, out_len);
+    /* 30: AHB codes 12 to 15 still by 32, 64, 128, 256 */
+    if (mistake(30) && number == 0 && c[12] > 11)
+        twice_below(out);
+    return number;
+}
+
+uint8_t __wrap_wontabeli_v30x_decode(const uint8_t *fields, size_t fields_len, uint32_t hse, uint32_t *out, size_t out_len)
+{
+    uint8_t number = __real_wontabeli_v30x_decode(fields, fields_len, hse, out, out_len);
+    /* 31: HPRE 12 to 15 still by 32, 64, 128, 256 */
+    if (mistake(31) && number == 0 && fields[5] > 11)
+        twice_below(out);
+    return number;
 }
 
 uint8_t __wrap_wontabeli_serial_divisor(uint32_t pclk, uint32_t rate, uint16_t *brr, int32_t *error)

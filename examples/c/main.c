@@ -1,4 +1,4 @@
-/* A host in C: checks a profile, asks for a serial divisor, then starts a simulated chip, once with a good crystal and once with one that never swings. */
+/* A host in C: checks a profile, asks for a serial divisor, decodes a V30x board, then starts a simulated chip, with a good crystal and with a dead one. */
 #include <stdio.h>
 #include <string.h>
 #include "wontabeli.h"
@@ -86,6 +86,21 @@ static int start(int crystal)
     return 0;
 }
 
+/* A CH32V30x board by its registers: HSE 8 MHz by 18 is SYSCLK, and HPRE reads as 12. */
+static uint8_t decode_v30x(void)
+{
+    uint8_t fields[WONTABELI_V30X_FIELDS_SIZE] = {0};
+    uint32_t clocks[WONTABELI_CLOCKS_WORDS];
+    uint8_t number;
+    fields[WONTABELI_V30X_FIELDS_SWS] = WONTABELI_SYSTEM_CLOCK_PLL;
+    fields[WONTABELI_V30X_FIELDS_PLLSRC] = 1;
+    fields[WONTABELI_V30X_FIELDS_PLLMUL] = WONTABELI_V30X_PLL_MUL18;
+    fields[WONTABELI_V30X_FIELDS_HPRE] = 12;
+    number = wontabeli_v30x_decode(fields, sizeof fields, 8000000, clocks, WONTABELI_CLOCKS_WORDS);
+    if (number == 0) printf("v30x: sysclk %lu hclk %lu\n", (unsigned long)clocks[WONTABELI_SYSCLK], (unsigned long)clocks[WONTABELI_HCLK]);
+    return number;
+}
+
 int main(void)
 {
     static const char *const names[] = {"sysclk", "hclk", "pclk1", "pclk2", "pclk1_tim", "pclk2_tim", "adc"};
@@ -101,5 +116,7 @@ int main(void)
     if (number != 0) return refused(number);
     printf("brr %u error %ld\n", brr, (long)error);
     printf("nine bytes: refused %u\n", wontabeli_check(profile, 9, clocks, WONTABELI_CHECK_WORDS));
+    number = decode_v30x();
+    if (number != 0) return refused(number);
     return start(1) | start(0);
 }

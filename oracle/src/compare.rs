@@ -86,7 +86,7 @@ where
             same = false;
             break;
         }
-        summary.add(&expected, by);
+        summary.add(&query, &expected, by);
         if (i + 1) % 50_000 == 0 {
             eprintln!("oracle: {} of {} queries, no difference", i + 1, count);
         }
@@ -122,6 +122,7 @@ fn show(i: usize, query: &Query, expected: &Answer, by: By, got: Option<&Answer>
         (By::Rust, _) => "the Rust",
         (By::Paper, SERIAL | PORT | BOARD | TRAY) => "document 02",
         (By::Paper, _) => "document 01",
+        (By::Manual, _) => "the Rust with AHB code 0, and the maker's manuals",
     };
     println!("query {} differs: {}", i, name_of(query[0]));
     println!("  query    {}", hex(trimmed(query)));

@@ -13,8 +13,8 @@ use std::io::{stdin, stdout, BufReader, BufWriter, Read, Write};
 struct Lists {
     stdin: Vec<u8>,
     stdout: Vec<u8>,
-    rust: usize,
-    paper: usize,
+    /// How many records the Rust, the documents and the manuals answer.
+    counts: [usize; 3],
     summary: Summary,
 }
 
@@ -38,13 +38,12 @@ fn fill(random: &mut Random, queries: &mut Vec<Query>) {
     }
 }
 
-/// First what the Rust answers, then what the documents alone answer.
+/// First what the Rust answers, then what the documents alone answer, then the AHB codes that go by the manuals.
 fn made(seed: u64) -> Lists {
     let mut lists = Lists {
         stdin: Vec::new(),
         stdout: Vec::new(),
-        rust: 0,
-        paper: 0,
+        counts: [0; 3],
         summary: Summary::default(),
     };
     let mut random = Random(seed);
@@ -54,17 +53,14 @@ fn made(seed: u64) -> Lists {
     // Random serial divisors come behind what is drawn without them, and boards behind both: what stands before stays as it was.
     queries.extend((0..60).map(|_| serial::random(&mut random)));
     queries.extend((0..40).map(|_| boards::random(&mut random)));
-    for wanted in [By::Rust, By::Paper] {
+    for (part, wanted) in [By::Rust, By::Paper, By::Manual].into_iter().enumerate() {
         for query in &queries {
             let (expected, by) = answer(query, Excluding { listed: true });
             if by == wanted {
                 lists.stdin.extend_from_slice(query);
                 lists.stdout.extend_from_slice(&expected);
-                lists.summary.add(&expected, by);
-                match by {
-                    By::Rust => lists.rust += 1,
-                    By::Paper => lists.paper += 1,
-                }
+                lists.summary.add(query, &expected, by);
+                lists.counts[part] += 1;
             }
         }
     }
@@ -88,11 +84,14 @@ pub fn write(seed: u64, crates: &str) -> Result<bool, String> {
         std::fs::write(&path, bytes).map_err(|error| format!("can't write {}: {}", path, error))?;
     }
     lists.summary.print();
+    let [rust, paper, manual] = lists.counts;
     println!(
-        "recorded: records 0 to {} from the Rust, {} to {} from documents 01 and 02",
-        lists.rust - 1,
-        lists.rust,
-        lists.rust + lists.paper - 1
+        "recorded: records 0 to {} from the Rust, {} to {} from documents 01 and 02, {} to {} with the manuals' table",
+        rust - 1,
+        rust,
+        rust + paper - 1,
+        rust + paper,
+        rust + paper + manual - 1
     );
     Ok(true)
 }

@@ -1,7 +1,8 @@
 //! What a run asked: by kind, how many were accepted and how many of each refusal.
 
 use crate::answer::By;
-use crate::record::{Answer, KINDS};
+use crate::paper::manual;
+use crate::record::*;
 
 #[derive(Default)]
 pub struct Summary {
@@ -9,10 +10,45 @@ pub struct Summary {
     counts: Vec<[u64; 256]>,
     by_rust: u64,
     by_paper: u64,
+    /// AHB codes 12 to 15 of each of `LEFT_OUT`.
+    left_out: [LeftOut; 3],
+}
+
+/// The families for which the Rust is not asked AHB codes 12 to 15, and their kinds of query.
+const LEFT_OUT: [(&str, [u8; 3]); 3] = [
+    ("V1", [V1_CHECK, V1_WRITTEN, V1_DECODE]),
+    ("L1", [L1_CHECK, L1_WRITTEN, L1_DECODE]),
+    ("V30x", [V30X_CHECK, V30X_WRITTEN, V30X_DECODE]),
+];
+
+#[derive(Default)]
+struct LeftOut {
+    queries: u64,
+    /// Those whose answer shows the divisor, by code.
+    tested: [u64; 16],
+}
+
+impl LeftOut {
+    fn line(&self, family: &str) -> String {
+        let count = |code: usize| match self.tested[code] {
+            0 => format!("{} NEVER", code),
+            times => format!("{} x{}", code, times),
+        };
+        let by_code: Vec<String> = (12..16).map(count).collect();
+        let tested: u64 = self.tested.iter().sum();
+        format!(
+            "{:<4} AHB codes 12 to 15 {:>7} left out where the Rust is asked; {} tested against the manuals' table ({}), {} show no divisor",
+            family,
+            self.queries,
+            tested,
+            by_code.join(", "),
+            self.queries - tested
+        )
+    }
 }
 
 impl Summary {
-    pub fn add(&mut self, expected: &Answer, by: By) {
+    pub fn add(&mut self, query: &Query, expected: &Answer, by: By) {
         self.counts.resize(KINDS.len(), [0; 256]);
         if let Some(kind) = KINDS.iter().position(|row| row.0 == expected[0]) {
             self.counts[kind][expected[1] as usize] += 1;
@@ -20,6 +56,16 @@ impl Summary {
         match by {
             By::Rust => self.by_rust += 1,
             By::Paper => self.by_paper += 1,
+            By::Manual => self.add_left_out(query, expected),
+        }
+    }
+
+    fn add_left_out(&mut self, query: &Query, expected: &Answer) {
+        let family = LEFT_OUT.iter().position(|row| row.1.contains(&query[0]));
+        let family = &mut self.left_out[family.expect("a family that is left out")];
+        family.queries += 1;
+        if let Some(code) = manual::shown(query, expected) {
+            family.tested[code as usize] += 1;
         }
     }
 
@@ -27,9 +73,13 @@ impl Summary {
         for ((_, name, refusals), counts) in KINDS.iter().zip(&self.counts) {
             println!("{}", counted(name, counts, refusals));
         }
+        for ((family, _), left_out) in LEFT_OUT.iter().zip(&self.left_out) {
+            println!("{}", left_out.line(family));
+        }
+        let by_manual: u64 = self.left_out.iter().map(|family| family.queries).sum();
         println!(
-            "expected answers: {} from the Rust, {} from documents 01 and 02",
-            self.by_rust, self.by_paper
+            "expected answers: {} from the Rust, {} from documents 01 and 02, {} from the Rust with AHB code 0 and the manuals' table",
+            self.by_rust, self.by_paper, by_manual
         );
     }
 }

@@ -226,13 +226,13 @@ pub mod v1 {
         Div4 = 9,
         Div8 = 10,
         Div16 = 11,
-        Div32 = 12,
-        Div64 = 13,
-        Div128 = 14,
-        Div256 = 15,
+        Div64 = 12,
+        Div128 = 13,
+        Div256 = 14,
+        Div512 = 15,
     }
 
-    by_code!(AhbPrescaler: Div1 Div2 Div4 Div8 Div16 Div32 Div64 Div128 Div256);
+    by_code!(AhbPrescaler: Div1 Div2 Div4 Div8 Div16 Div64 Div128 Div256 Div512);
 }
 
 pub mod v30x {
@@ -307,13 +307,13 @@ pub mod v30x {
         Div4 = 9,
         Div8 = 10,
         Div16 = 11,
-        Div32 = 12,
-        Div64 = 13,
-        Div128 = 14,
-        Div256 = 15,
+        Div64 = 12,
+        Div128 = 13,
+        Div256 = 14,
+        Div512 = 15,
     }
 
-    by_code!(AhbPrescaler: Div1 Div2 Div4 Div8 Div16 Div32 Div64 Div128 Div256);
+    by_code!(AhbPrescaler: Div1 Div2 Div4 Div8 Div16 Div64 Div128 Div256 Div512);
 
     /// By what the USBHS PLL's input is divided.
     #[derive(Clone, Copy, Debug, Default, PartialEq, Eq)]

@@ -1,4 +1,4 @@
--- The dividers of document 01, "Modules, leaves first": AHB, APB and FPRE divisors by their codes, and frequencies divided by them.
+-- The dividers of document 01, "Modules, leaves first", and of document 02, K4: AHB, APB and FPRE divisors by their codes, and frequencies divided by them.
 -- Assumes nothing.
 use mathlib.Core.Path.{_≡_, refl}
 use mathlib.Core.List.{List, [], _∷_}
@@ -14,18 +14,15 @@ use Rattle.divider.specs.declared.Quotient.the-variants as quotient
 use Rattle.divider.specs.Frequency.{over}
 
 -- AHB divisors: codes 0 to 7 give 1; 8 to 15 give 2, 4, 8, 16, 64, 128, 256, 512
-abbrev without32 : List ℕ
-without32 = 1 ∷ 1 ∷ 1 ∷ 1 ∷ 1 ∷ 1 ∷ 1 ∷ 1 ∷ 2 ∷ 4 ∷ 8 ∷ 16 ∷ 64 ∷ 128 ∷ 256 ∷ 512 ∷ []
+abbrev skipping32 : List ℕ
+skipping32 = 1 ∷ 1 ∷ 1 ∷ 1 ∷ 1 ∷ 1 ∷ 1 ∷ 1 ∷ 2 ∷ 4 ∷ 8 ∷ 16 ∷ 64 ∷ 128 ∷ 256 ∷ 512 ∷ []
 
--- or 2, 4, 8, 16, 32, 64, 128, 256
-abbrev with32 : List ℕ
-with32 = 1 ∷ 1 ∷ 1 ∷ 1 ∷ 1 ∷ 1 ∷ 1 ∷ 1 ∷ 2 ∷ 4 ∷ 8 ∷ 16 ∷ 32 ∷ 64 ∷ 128 ∷ 256 ∷ []
-
+-- by document 01, but for codes 12 to 15 of V1, whose row is L1's too, and of V30x: these by document 02, K4
 unfoldable pub ahbDivisors : Family → List ℕ
-ahbDivisors V4x7 = without32
-ahbDivisors V1 = with32
-ahbDivisors V30x = with32
-ahbDivisors H4 = without32
+ahbDivisors V4x7 = skipping32
+ahbDivisors V1 = skipping32
+ahbDivisors V30x = skipping32
+ahbDivisors H4 = skipping32
 
 unfoldable pub ahbDivisor : Family → ℕ → ℕ
 ahbDivisor f c = getD (ahbDivisors f) c 0

@@ -1,13 +1,13 @@
 -- Laws of the divisors, shown once over family and code. Callers use them in place of the tables.
 -- Assumes nothing.
 use mathlib.Core.Path.{_≡_, refl, ap}
-use mathlib.Core.Bool.{Bool}
+use mathlib.Core.Bool.{Bool, cond}
 use mathlib.Core.List.{List, [], _∷_}
-use Prim.Native.Nat.{ℕ, _<_, _≤_, _*_, _/_, _%_, _^_}
+use Prim.Native.Nat.{ℕ, _<_, _≤_, _-_, _*_, _/_, _%_, _^_}
 use native.Mathlib.Omega.{arith}
 use native.Mathlib.Nat.{mul-div-le, mul-le-mul-right, le-trans}
 use borrow.Author.Tests.{leb-false}
-use lib.Dec.{T, leb, leb→le}
+use lib.Dec.{T, leb, eqb, leb→le, eqb→eq}
 use lib.ListN.{getD, length}
 use Rattle.answer.specs.Answer.{Answer, gives, refuses, _>>=_, _>>_}
 use Rattle.answer.specs.Each.{Each, each-gives, each-past, each-bind, each-at}
@@ -44,6 +44,25 @@ ahb-between V4x7 = entry 512 (ahbDivisors V4x7) tt
 ahb-between V1 = entry 512 (ahbDivisors V1) tt
 ahb-between V30x = entry 512 (ahbDivisors V30x) tt
 ahb-between H4 = entry 512 (ahbDivisors H4) tt
+
+-- by which power of two a code divides, as the Rust has it for H4 (`ahb_hz`): code - 6 from 12 on, else code - 7, a subtraction that stops at 0
+abbrev pub ahbPower : ℕ → ℕ
+ahbPower c = cond (leb 12 c) (c - 6) (c - 7)
+
+isPower : ℕ → ℕ → Bool
+isPower c d = eqb d (2 ^ ahbPower c)
+
+power-at : (row : List ℕ) → T (every isPower 0 row) → (c : ℕ) → c < length row → getD row c 0 ≡ 2 ^ ahbPower c
+unfolding isPower
+power-at row t c h = eqb→eq (getD row c 0) (2 ^ ahbPower c) (at isPower row t c h)
+
+-- every family skips 32 (document 02, K4)
+pub ahb-power : (f : Family) (c : ℕ) → c < 16 → ahbDivisor f c ≡ 2 ^ ahbPower c
+unfolding isPower ahbDivisor ahbDivisors
+ahb-power V4x7 = power-at (ahbDivisors V4x7) tt
+ahb-power V1 = power-at (ahbDivisors V1) tt
+ahb-power V30x = power-at (ahbDivisors V30x) tt
+ahb-power H4 = power-at (ahbDivisors H4) tt
 
 pub apb-between : (c : ℕ) → c < 8 → Between 16 (apbDivisor c)
 unfolding within apbDivisor

@@ -48,11 +48,11 @@ pub fn refusal(rate: Rate) -> u8
     }
 }
 
-// A row for each family and a column for each code.
+// A row for each family and a column for each code. The rows are equal, and each family keeps its own.
 const AHB_SHIFTS: [[u8; 16]; 4] = [
     [0, 0, 0, 0, 0, 0, 0, 0, 1, 2, 3, 4, 6, 7, 8, 9], // V4x7
-    [0, 0, 0, 0, 0, 0, 0, 0, 1, 2, 3, 4, 5, 6, 7, 8], // V1
-    [0, 0, 0, 0, 0, 0, 0, 0, 1, 2, 3, 4, 5, 6, 7, 8], // V30x
+    [0, 0, 0, 0, 0, 0, 0, 0, 1, 2, 3, 4, 6, 7, 8, 9], // V1
+    [0, 0, 0, 0, 0, 0, 0, 0, 1, 2, 3, 4, 6, 7, 8, 9], // V30x
     [0, 0, 0, 0, 0, 0, 0, 0, 1, 2, 3, 4, 6, 7, 8, 9], // H4
 ];
 

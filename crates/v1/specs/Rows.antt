@@ -1,4 +1,4 @@
--- Worked configurations and fields of CH32V1 and CH32L1, of the definitions: one list and one statement for the check and for the decoder.
+-- Worked configurations and fields of CH32V1 and CH32L1, of the definitions: a list and a statement for the check, for the decoder, and for both by AHB code.
 -- Assumes nothing.
 use mathlib.Core.Path.{refl}
 use mathlib.Core.Bool.{Bool, true, false}
@@ -126,3 +126,32 @@ unfolding fields readings reads
     decodeOf settingIn decodedClocksOf decodedSysclkOf pllOutputOf multipliedOf factor
     clocksOf belowOf busOf timerClock byAhbOf ahbOf ahbDivisor ahbDivisors apbQuotientOf apbOf apbDivisor over
 readings-hold = refl
+
+-- Document 02, K4: HSI by the AHB codes 11 to 15, which divide by 16, 64, 128, 256 and 512: HCLK, and the timers of the first bus, which divides by 2.
+pub prescaled : List (ℕ × Answer (ℕ × ℕ))
+prescaled =
+    (11, gives (500000, 500000))
+    ∷ (12, gives (125000, 125000))
+    ∷ (13, gives (62500, 62500))
+    ∷ (14, gives (31250, 31250))
+    ∷ (15, gives (15625, 15624))
+    ∷ []
+
+pub checkedAt : Chip → ℕ → Answer (ℕ × ℕ)
+checkedAt chip ahb = do
+  a ← checkOf chip (record { hse = hse.Absent; sys = 0; «pll_src» = from.Hsi; pll = pll.Absent; «ahb_pre» = ahb; «apb1_pre» = 4; «apb2_pre» = 0 })
+  gives (a .clocks .hclk, a .clocks .«pclk1_tim»)
+
+pub decodedAt : Chip → ℕ → Answer (ℕ × ℕ)
+decodedAt chip hpre = do
+  k ← decodeOf chip
+      (record { sws = 0; pllsrc = false; pllxtpre = false; pllmul = 0; hpre = hpre; ppre1 = 4; ppre2 = 0; hsipre = false })
+      frequency.Absent
+  gives (k .hclk, k .«pclk1_tim»)
+
+pub prescaled-hold : (chip : Chip) → Worked (checkedAt chip) prescaled × Worked (decodedAt chip) prescaled
+unfolding prescaled checkedAt decodedAt
+    checkOf wideConfig configuredPllOf configuredClocksOf sysclkOf usbDivisor decodeOf settingIn decodedClocksOf decodedSysclkOf
+    clocksOf belowOf busOf timerClock byAhbOf ahbOf ahbDivisor ahbDivisors apbQuotientOf apbOf apbDivisor over
+prescaled-hold V1 = (refl, refl)
+prescaled-hold L1 = (refl, refl)

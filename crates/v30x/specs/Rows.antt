@@ -1,4 +1,5 @@
--- Worked configurations and fields of CH32V30x, of the definitions: for the check a list of its own for the USBHS reference, and one for the decoder.
+-- Worked configurations and fields of CH32V30x, of the definitions: for the check a list of its own for the USBHS reference, one for the decoder, and one for both
+-- by AHB code.
 -- Assumes nothing.
 use mathlib.Core.Path.{refl}
 use mathlib.Core.Bool.{Bool, true, false}
@@ -160,3 +161,44 @@ unfolding fields readings reads
     decodeOf wideFields settingIn decodedClocksOf decodedSysclkOf pllOutputOf multipliedOf factor
     clocksOf belowOf busOf timerClock byAhbOf ahbOf ahbDivisor ahbDivisors apbQuotientOf apbOf apbDivisor over
 readings-hold = refl
+
+-- Document 02, K4: a board at 144 MHz, HSE by 18, by the AHB codes 11 to 15, which divide by 16, 64, 128, 256 and 512: HCLK, and the timers of the first bus,
+-- which divides by 4.
+pub prescaled : List (ℕ × Answer (ℕ × ℕ))
+prescaled =
+    (11, gives (9000000, 4500000))
+    ∷ (12, gives (2250000, 1125000))
+    ∷ (13, gives (1125000, 562500))
+    ∷ (14, gives (562500, 281250))
+    ∷ (15, gives (281250, 140624))
+    ∷ []
+
+pub checkedAt : ℕ → Answer (ℕ × ℕ)
+checkedAt ahb = do
+  a ← checkOf (record {
+    hse = xtal 8000000;
+    sys = 2;
+    «pll_src» = source.Hse;
+    pll = pll.Present 0 0;
+    pllx = pllx.Absent;
+    «ahb_pre» = ahb;
+    «apb1_pre» = 5;
+    «apb2_pre» = 0;
+    «hspll_src» = from.Hsi;
+    hspll = hspll.Absent;
+  })
+  gives (a .clocks .hclk, a .clocks .«pclk1_tim»)
+
+pub decodedAt : ℕ → Answer (ℕ × ℕ)
+decodedAt hpre = do
+  k ← decodeOf
+      (record { sws = 2; pllsrc = true; prediv1 = 0; prediv1src = false; pllmul = 0; hpre = hpre; ppre1 = 5; ppre2 = 0; hsipre = false })
+      (frequency.Hz 8000000)
+  gives (k .hclk, k .«pclk1_tim»)
+
+pub prescaled-hold : Worked checkedAt prescaled × Worked decodedAt prescaled
+unfolding xtal prescaled checkedAt decodedAt
+    checkOf wideConfig sourcesOf configuredPllOf pllFromOscillatorOf usbhsOf configuredClocksOf sysclkOf usbDivisor
+    decodeOf wideFields settingIn decodedClocksOf decodedSysclkOf pllOutputOf multipliedOf factor
+    clocksOf belowOf busOf timerClock byAhbOf ahbOf ahbDivisor ahbDivisors apbQuotientOf apbOf apbDivisor over
+prescaled-hold = (refl, refl)

@@ -1,6 +1,7 @@
-//! A host in Rust: checks a profile, asks for a serial divisor, then starts a simulated chip, once with a good crystal and once with one that never swings.
+//! A host in Rust: checks a profile, asks for a serial divisor, decodes a V30x board, then starts a simulated chip, with a good crystal and with a dead one.
+use std::num::NonZeroU32;
 use wontabeli::numbers::*;
-use wontabeli::{call_bound, check, read_image, Chip, Config, FlashKey, Hse, PllMul, PllSource, Reading, Refusal, Report, Startup, Sysclk};
+use wontabeli::{call_bound, check, read_image, v30x, Chip, Config, FlashKey, Hse, PllMul, PllSource, Reading, Refusal, Report, Startup, Sysclk};
 
 /// HSE 8 MHz, main PLL from it by 12.5, the system clock from that.
 fn config() -> Config {
@@ -54,6 +55,18 @@ fn start(profile: &[u8], crystal: bool) -> Result<(), Refusal> {
     Ok(())
 }
 
+/// A CH32V30x board by its registers: HSE 8 MHz by 18 is SYSCLK, and HPRE reads as 12.
+fn decode_v30x() -> Result<(), Refusal> {
+    let mut fields = [0; V30X_FIELDS_SIZE];
+    fields[V30X_FIELDS_SWS] = Sysclk::Pll.code();
+    fields[V30X_FIELDS_PLLSRC] = 1;
+    fields[V30X_FIELDS_PLLMUL] = v30x::PllMul::Mul18.code();
+    fields[V30X_FIELDS_HPRE] = 12;
+    let k = v30x::decode(&fields, NonZeroU32::new(8_000_000))?;
+    println!("v30x: sysclk {} hclk {}", k.sysclk, k.hclk);
+    Ok(())
+}
+
 fn answers() -> Result<(), Refusal> {
     let profile = config().to_profile()?;
     let promised = check(&profile)?;
@@ -68,6 +81,7 @@ fn answers() -> Result<(), Refusal> {
     if let Err(refusal) = check(&profile[..9]) {
         println!("nine bytes: refused {}", refusal.number());
     }
+    decode_v30x()?;
     start(&profile, true)?;
     start(&profile, false)
 }

@@ -120,6 +120,14 @@ fn v30x_query(kind: u8, c: &Choice, r: &mut Random) -> Query {
     }
 }
 
+/// Check, fields or decoder of V1, L1 or V30x.
+fn family_query(family: usize, call: usize, c: &Choice, r: &mut Random) -> Query {
+    match family {
+        2 => v30x_query(V30X[call], c, r),
+        _ => v1_query(V1S[family][call], c, r),
+    }
+}
+
 const PLAIN: Choice = Choice {
     hse: Some(8_000_000),
     sys: 2,
@@ -245,11 +253,7 @@ pub fn multiplied(i: usize) -> Query {
     let mut c = PLAIN;
     c.hse = Some(5_000_001);
     c.mul = d.byte(16);
-    let mut r = Random(i as u64);
-    match family {
-        2 => v30x_query(V30X[call], &c, &mut r),
-        _ => v1_query(V1S[family][call], &c, &mut r),
-    }
+    family_query(family, call, &c, &mut Random(i as u64))
 }
 
 /// V30x: every multiplier and predivider, by source, at boundary HSEs, through each call.
@@ -278,10 +282,23 @@ pub fn dividers(i: usize) -> Query {
     c.apb2 = d.byte(8);
     let mut r = Random(i as u64);
     c.hse = Some(r.pick(&[0xffff_ffff, 25_000_001, 255, 1, 0]));
-    match family {
-        2 => v30x_query(V30X[call], &c, &mut r),
-        _ => v1_query(V1S[family][call], &c, &mut r),
-    }
+    family_query(family, call, &c, &mut r)
+}
+
+/// Each family: the AHB codes from 11 on, with three pairs of APB codes, at 8 MHz and at an odd HSE, and refused, through each call.
+pub const SKIPPED: usize = 3 * 3 * 5 * 3 * 3;
+pub fn skipped(i: usize) -> Query {
+    let mut d = Digits(i);
+    let family = d.of(3);
+    let call = d.of(3);
+    let mut c = PLAIN;
+    c.ahb = 11 + d.byte(5);
+    let (apb1, apb2) = d.from(&[(0, 0), (4, 7), (6, 3)]);
+    c.apb1 = apb1;
+    c.apb2 = apb2;
+    c.sys = 1;
+    c.hse = d.from(&[Some(8_000_000), Some(25_000_001), None]);
+    family_query(family, call, &c, &mut Random(i as u64))
 }
 
 /// Each family: every system clock and source, with and without PLL, HSE, PLL2/PLL3, USBHS and PREDIV1SRC.
@@ -299,15 +316,11 @@ pub fn choices(i: usize) -> Query {
     c.pllx = d.of(2) == 1;
     c.usbhs = d.from(&[None, Some((true, 0))]);
     c.prediv1src = d.of(2) == 1;
-    let mut r = Random(i as u64);
-    match family {
-        2 => v30x_query(V30X[call], &c, &mut r),
-        _ => {
-            c.pre = c.pre.min(2);
-            c.source &= 1;
-            v1_query(V1S[family][call], &c, &mut r)
-        }
+    if family < 2 {
+        c.pre = c.pre.min(2);
+        c.source &= 1;
     }
+    family_query(family, call, &c, &mut Random(i as u64))
 }
 
 /// V30x USBHS: both sources, every prescaler, HSE at and beside the frequencies that give 3, 4, 5 and 8 MHz.

@@ -22,7 +22,7 @@ use random::Random;
 /// A set of all combinations of something: how many, how many of them the recorded list takes, and each by its place.
 type Set = (usize, usize, fn(usize) -> Query);
 
-const SETS: [Set; 51] = [
+const SETS: [Set; 52] = [
     (check::DIVIDERS, 90, check::dividers),
     (check::MULTIPLIERS, 90, check::multipliers),
     (check::LIMITS, 180, check::limits),
@@ -37,6 +37,7 @@ const SETS: [Set; 51] = [
     (fields::ADC_DIVISORS, 90, fields::adc_divisors),
     (fields::RNGS, 90, fields::rngs),
     (family::DIVIDERS, 90, family::dividers),
+    (family::SKIPPED, family::SKIPPED, family::skipped),
     (family::V1_MULTIPLIERS, 90, family::v1_multipliers),
     (family::V30X_MULTIPLIERS, 90, family::v30x_multipliers),
     (family::CHOICES, 90, family::choices),

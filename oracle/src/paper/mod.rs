@@ -1,10 +1,11 @@
 //! What document 01 decides and the Rust doesn't: refusals that only the port has, the codecs, a startup's single call,
-//! and the listed differences; and document 02, of which the Rust has nothing.
+//! and the listed differences; and document 02: what the Rust has nothing of, and where it goes by the maker's manuals.
 
 pub mod call;
 pub mod codec;
 pub mod codes;
 pub mod layout;
+pub mod manual;
 pub mod profile;
 mod rules;
 pub mod serial;
@@ -31,7 +32,7 @@ pub fn alone(q: &Query) -> Option<Answer> {
     }
 }
 
-/// Listed differences: the Rust has an answer, and document 01 another.
+/// Listed differences: the Rust has an answer, and document 01 another. (The one by document 02, D9, is in manual.rs.)
 /// V30x decoder: 27 where the PLL is in use and runs from HSE with PREDIV1SRC set. The Rust doesn't look at PREDIV1SRC (D1).
 /// Startup: step 28 decodes the fields, in which SWS is the last used reading's. The Rust reads CFGR0 once more (D8).
 pub fn listed(q: &Query) -> Option<Answer> {
