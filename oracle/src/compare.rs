@@ -45,14 +45,16 @@ pub fn run(seed: u64, count: usize, program: &str, excluding: Excluding) -> Resu
     Ok(same)
 }
 
-/// Compares the queries of a recorded list.
-pub fn list(path: &str, program: &str, excluding: Excluding) -> Result<bool, String> {
+/// Compares the queries of a recorded list: all, or those that the Rust alone does not answer.
+pub fn list(path: &str, program: &str, excluding: Excluding, all: bool) -> Result<bool, String> {
     let bytes = std::fs::read(path).map_err(|error| format!("can't read {}: {}", path, error))?;
     let mut queries = Vec::new();
     for part in bytes.chunks_exact(QUERY) {
         let mut query = [0; QUERY];
         query.copy_from_slice(part);
-        queries.push(query);
+        if all || answer(&query, excluding).1 != By::Rust {
+            queries.push(query);
+        }
     }
     let count = queries.len();
     let same = compare(queries.into_iter(), count, program, excluding)?;

@@ -16,7 +16,7 @@ mod trays;
 
 use std::process::exit;
 
-const USAGE: &str = "usage: oracle compare SEED COUNT PROGRAM | list FILE PROGRAM | query HEX PROGRAM | texts SEED COUNT PROGRAM | \
+const USAGE: &str = "usage: oracle compare SEED COUNT PROGRAM | list FILE PROGRAM | papers FILE PROGRAM | query HEX PROGRAM | texts SEED COUNT PROGRAM | \
                      trays SEED COUNT PROGRAM | record SEED CRATES | check SEED CRATES | answer | tell | serve | rows\n       --listed after it: listed differences are not left out (the Rust's own answer to one, and the test of the comparison)";
 
 fn main() {
@@ -30,7 +30,8 @@ fn main() {
     let words: Vec<&str> = args.iter().map(String::as_str).collect();
     let result = match words[..] {
         ["compare", seed, count, program] => compare::run(number(seed), number(count) as usize, program, excluding),
-        ["list", path, program] => compare::list(path, program, excluding),
+        ["list", path, program] => compare::list(path, program, excluding, true),
+        ["papers", path, program] => compare::list(path, program, excluding, false),
         ["query", query, program] => compare::one(query, program, excluding),
         ["texts", seed, count, program] => texts::run(number(seed), number(count) as usize, program),
         ["trays", seed, count, program] => trays::run(number(seed), number(count) as usize, program),
