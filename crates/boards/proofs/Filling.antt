@@ -11,17 +11,12 @@ use Rattle.answer.specs.Answer.{Answer}
 use Rattle.v4x7.specs.declared.ClockRecord.{ClockRecord}
 use Rattle.profile.specs.Profile.{checkProfile}
 use Rattle.layout.specs.Layout.{unpack, bytes}
+use Rattle.layout.proofs.Filling.{sets-append}
 use Rattle.layout.proofs.Writing.{short, refused, written-to}
 use Rattle.answer.specs.declared.Outcome.the-variants.{Done, Refused}
-use Rattle.boards.specs.Tray.{numbersOf, inFours, boardOf, boardsIn, recordsOf, trayOf, Trayed}
+use Rattle.layout.specs.Numbers.{inFours}
+use Rattle.boards.specs.Tray.{numbersOf, boardOf, boardsIn, recordsOf, trayOf, Trayed}
 use Rattle.boards.specs.Laws.{board-length, records-length}
-
--- one run, and another behind it
-pub sets-append : (l : List ℕ) (at : ℕ) (xs ys : List ℕ) → sets l at (xs ++ ys) ≡ sets (sets l at xs) (at + length xs) ys
-sets-append l at [] ys = rw add-zero
-sets-append l at (x ∷ xs) ys =
-    sets-append (set l at x) (suc at) xs ys
-    ∙ ap (λ (n : ℕ). sets (sets (set l at x) (suc at) xs) n ys) (suc-add at (length xs) ∙ sym (add-suc at (length xs)))
 
 -- a run over all there is
 pub sets-whole : (l xs : List ℕ) → length xs ≡ length l → sets l 0 xs ≡ xs
@@ -31,19 +26,6 @@ sets-whole l xs e = sets-eq xs l 0 (omega arith) ∙ rw (zero-add, e, drop-lengt
 pub its-record : (p xs : List ℕ) {m : Answer ClockRecord} → xs ≡ numbersOf m → m ≡ checkProfile p → inFours xs ≡ boardOf p
 unfolding boardOf
 its-record p xs e q = rw (e, q)
-
--- the numbers from i on are still to be stored
-pub number-stored : (out g xs : List ℕ) (at i : ℕ) → i < length xs → sets out (at + 4 * i) (inFours (drop i xs)) ≡ g →
-    sets (sets out (at + 4 * i) (unpack (bytes 4) (getD xs i 0))) (at + 4 * (i + 1)) (inFours (drop (i + 1) xs)) ≡ g
-number-stored out g xs at i h p =
-    let four = unpack (bytes 4) (getD xs i 0) in
-    let e : at + 4 * i + 4 ≡ at + 4 * (i + 1) = omega arith in
-    let f : suc i ≡ i + 1 = omega arith in
-    rw (sym e)
-    (sym (sets-append out (at + 4 * i) four (inFours (drop (i + 1) xs)))
-    ∙ ap (λ (n : ℕ). sets out (at + 4 * i) (four ++ inFours (drop n xs))) (sym f)
-    ∙ ap (λ (l : List ℕ). sets out (at + 4 * i) (inFours l)) (sym (drop-cons xs i 0 h))
-    ∙ p)
 
 -- none is stored yet
 pub none-stored : (out s : List ℕ) (n : ℕ) → sets out 0 (recordsOf (n - 0) s) ≡ sets out 0 (recordsOf n s)

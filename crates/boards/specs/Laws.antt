@@ -15,7 +15,8 @@ use Rattle.answer.specs.declared.Outcome.the-variants.{Done}
 use Rattle.layout.proofs.Writing.{held}
 use Rattle.v4x7.specs.declared.ClockRecord.{ClockRecord}
 use Rattle.profile.specs.Profile.{checkProfile}
-use Rattle.boards.specs.Tray.{numbersOf, inFours, boardOf, boardsIn, recordsOf, trayOf, trayInto, Trayed}
+use Rattle.layout.specs.Numbers.{inFours}
+use Rattle.boards.specs.Tray.{numbersOf, boardOf, boardsIn, recordsOf, trayOf, trayInto, Trayed}
 
 -- a record has 32 bytes
 in-fours-length : (m : Answer ClockRecord) → length (inFours (numbersOf m)) ≡ 32

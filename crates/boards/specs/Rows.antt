@@ -11,7 +11,8 @@ use Rattle.v4x7.specs.declared.ClockRecord.{ClockRecord}
 use Rattle.profile.specs.Profile.{checkProfile}
 use Rattle.profile.specs.Rows as rows
 use Rattle.profile.specs.Rows.{a11Profile, a2Profile, dividedProfile}
-use Rattle.boards.specs.Tray.{numbersOf, inFours, boardOf, recordsOf, trayOf, trayInto}
+use Rattle.layout.specs.Numbers.{inFours}
+use Rattle.boards.specs.Tray.{numbersOf, boardOf, recordsOf, trayOf, trayInto}
 
 -- a board's record, of what its check says
 shown : (p : List ℕ) {m : Answer ClockRecord} → checkProfile p ≡ m → boardOf p ≡ inFours (numbersOf m)

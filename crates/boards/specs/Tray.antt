@@ -7,7 +7,7 @@ use lib.Dec.{eqb}
 use lib.ListN.{length, take, drop, replicate}
 use Rattle.answer.specs.Answer.{Answer, gives, refuses, refuse, _>>_}
 use Rattle.answer.specs.declared.Outcome.{Outcome}
-use Rattle.layout.specs.Layout.{unpack, bytes}
+use Rattle.layout.specs.Numbers.{inFours}
 use Rattle.layout.specs.Lent.{written, Wrote}
 use Rattle.v4x7.specs.declared.ClockRecord.{ClockRecord}
 use Rattle.profile.specs.Profile.{checkProfile}
@@ -18,12 +18,7 @@ numbersOf (gives x) =
     0 ∷ x .clocks .sysclk ∷ x .clocks .hclk ∷ x .clocks .pclk1 ∷ x .clocks .pclk2 ∷ x .clocks .«pclk1_tim» ∷ x .clocks .«pclk2_tim» ∷ x .adc ∷ []
 numbersOf (refuses n) = n ∷ replicate 7 0
 
--- ".. all eight as four bytes, most significant byte first"
-abbrev pub inFours : List ℕ → List ℕ
-inFours [] = []
-inFours (x ∷ xs) = unpack (bytes 4) x ++ inFours xs
-
--- the 32 bytes of a board: a function of its profile alone
+-- the 32 bytes of a board, a function of its profile alone: ".. all eight as four bytes, most significant byte first"
 unfoldable pub boardOf : List ℕ → List ℕ
 boardOf p = inFours (numbersOf (checkProfile p))
 

@@ -4,8 +4,8 @@ ghost use Prim.Native.Nat.{_+_, _≤_};
 ghost use lib.ListN.{length};
 ghost use lib.Seq.{sets};
 ghost use Rattle.v4x7.specs.Check.{checkedSays};
-ghost use Rattle.layout.specs.Layout.{unpack, bytes};
-ghost use Rattle.boards.specs.Tray.{numbersOf, inFours, boardOf, Trayed};
+ghost use Rattle.layout.specs.Numbers.{inFours};
+ghost use Rattle.boards.specs.Tray.{numbersOf, boardOf, Trayed};
 use answer::Outcome;
 use v4x7::Checked;
 
@@ -32,28 +32,12 @@ fn numbers(checked: Checked) -> [u32; 8]
     ]
 }
 
-// Writes a number as four bytes, the most significant first.
-fn put_number(out: &mut [u8], at: usize, x: u32)
-    requires { ⌜ at + 4 ≤ length (now out) ⌝ }
-    ensures { λ _. ⌜ now (out .exit) ≡ sets (now (out .entry)) at (unpack (bytes 4) x) ⌝ }
-{
-    let four = layout::four_bytes(x);
-    out[at] = four[0];
-    out[at + 1] = four[1];
-    out[at + 2] = four[2];
-    out[at + 3] = four[3];
-}
-
 // Writes the eight numbers of a record.
 fn put_record(out: &mut [u8], at: usize, xs: [u32; 8])
     requires { ⌜ at + 32 ≤ length (now out) ⌝ }
     ensures { λ _. ⌜ now (out .exit) ≡ sets (now (out .entry)) at (inFours xs) ⌝ }
 {
-    let mut i = 0;
-    while i < 8 {
-        put_number(out, at + 4 * i, xs[i]);
-        i += 1;
-    }
+    layout::put_numbers(out, at, &xs);
 }
 
 // The record of one board. A profile that is not ten bytes is refused by 29, as its record says.

@@ -29,7 +29,7 @@ use Rattle.demands.specs.Third.{begun}
 use Rattle.demands.specs.Third as third
 use Rattle.demands.proofs.Accepted.{accepted-tells}
 use Rattle.demands.proofs.Machine.{machine}
-use Rattle.demands.proofs.Width.{wide, in-width}
+use Rattle.image.specs.Width.{wide, in-width}
 use Rattle.demands.proofs.Third.{bounds, Sound, same-step, stays-sound, starts, demand3}
 use Rattle.capi_give.specs.Given.{numberIn, Given}
 use Rattle.capi_startup.specs.Kept.{keptOf, tailOf, placeOf}

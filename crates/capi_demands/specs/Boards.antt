@@ -8,7 +8,8 @@ use lib.ListN.{replicate}
 use Rattle.answer.specs.Answer.{Answer, gives, refuses}
 use Rattle.v4x7.specs.declared.ClockRecord.{ClockRecord}
 use Rattle.profile.specs.Profile.{checkProfile}
-use Rattle.boards.specs.Tray.{numbersOf, inFours, boardOf}
+use Rattle.layout.specs.Numbers.{inFours}
+use Rattle.boards.specs.Tray.{numbersOf, boardOf}
 use Rattle.capi_give.specs.Given.{Given, sevenWords}
 use Rattle.capi.specs.Calls.{sevenOf}
 

@@ -38,7 +38,8 @@ use Rattle.demands.proofs.Walk.{Always}
 use Rattle.demands.proofs.Fair.{Tame}
 use Rattle.demands.proofs.Held.{always, tame-take, written-kept}
 use Rattle.demands.proofs.Accepted.{Accepted, accepted-tells}
-use Rattle.demands.proofs.Width.{Wide, in-width, see, tame}
+use Rattle.image.specs.Width.{Wide, in-width}
+use Rattle.demands.proofs.Width.{see, tame}
 
 -- Steps 8 and 9, 11, 13 and 14, 16 and 17, taken or skipped.
 abbrev hseOut : Hse → Fields → Fields

@@ -30,7 +30,7 @@ use Rattle.demands.specs.Third.{begun, bound, Reached}
 use Rattle.demands.proofs.Given.{fields}
 use Rattle.demands.proofs.Machine.{machine}
 use Rattle.demands.proofs.Slow.{Slow, slowest, slow}
-use Rattle.demands.proofs.Width.{wide}
+use Rattle.image.specs.Width.{wide}
 use Rattle.demands.proofs.Third.{same-run, bounds}
 
 -- HSE at 25 MHz times 8 as the system clock, AHB divided by 2, ETH PLL, USBHS PLL from HSI, the ADC from it.

@@ -1,3 +1,4 @@
 pub mod RoundTrip
 pub mod Widths
+mod Words
 pub mod Worked

@@ -2,9 +2,12 @@
 use answer::Outcome;
 ghost use mathlib.Core.Path.{_≡_};
 ghost use Rattle.layout.specs.Lent.{Wrote};
+ghost use Prim.Native.Nat.{_≤_, _<_};
 ghost use lib.ListN.{getD};
-ghost use Rattle.layout.specs.Bits.{cut};
-ghost use Rattle.image.specs.Image.{widths, ctlrOf, seenOf, cfgr0Of, cfgr2Of, flashOf, fieldsOf, listOf, inWidth, readImageSays, readImage, imageBytes};
+ghost use Rattle.layout.specs.Bits.{cut, bit};
+ghost use Rattle.image.specs.Words.{ctlrNumber, seenNumber, cfgr0Early, cfgr0Late, cfgr2Number, flashNumber, earlyOf, lateOf};
+ghost use Rattle.image.specs.Width.{Wide};
+ghost use Rattle.image.specs.Image.{widths, ctlrOf, seenOf, cfgr0Of, cfgr2Of, flashOf, fieldsOf, inWidth, readImageSays, readImage, imageBytes};
 
 // CTLR: what switches the oscillators and PLLs on.
 pub struct Ctlr {
@@ -239,46 +242,95 @@ pub fn in_width(f: Fields) -> bool
         & (f.flash.sckmod < 4)
 }
 
-// The fields and the filling, one for each of WIDTHS.
-fn list_of(f: Fields) -> [u8; 34]
-    ensures { λ r. ⌜ r ≡ listOf f ⌝ }
+// A bit as a number.
+fn one(on: bool) -> u32
+    ensures { λ r. ⌜ (r ≡ bit on) × (r ≤ 1) ⌝ }
 {
-    [
-        f.ctlr.hsion as u8,
-        f.ctlr.hsebyp as u8,
-        f.ctlr.hseon as u8,
-        f.ctlr.csson as u8,
-        f.ctlr.pllon as u8,
-        f.ctlr.usbhs_pllon as u8,
-        f.ctlr.eth_pllon as u8,
-        f.seen.hsirdy as u8,
-        f.seen.hserdy as u8,
-        f.seen.pllrdy as u8,
-        f.seen.usbhs_pllrdy as u8,
-        f.seen.eth_pllrdy as u8,
-        f.seen.sws,
-        f.cfgr0.sw,
-        f.cfgr0.pllsrc as u8,
-        f.cfgr0.pllmul,
-        f.cfgr0.hpre,
-        f.cfgr0.ppre1,
-        f.cfgr0.ppre2,
-        f.cfgr0.adcpre,
-        f.cfgr0.adcsrc as u8,
-        f.cfgr0.adc_duty,
-        f.cfgr2.usbhspllsrc,
-        f.cfgr2.usbhspllclk,
-        f.cfgr2.syspllsrc,
-        f.cfgr2.sysplldiv,
-        f.cfgr2.syspll_gate as u8,
-        f.cfgr2.rngsrc as u8,
-        f.cfgr2.i2spllsrc as u8,
-        f.cfgr3.adc_clkdiv,
-        f.flash.sckmod,
-        f.flash.lock as u8,
-        f.flash.flock as u8,
-        0,
-    ]
+    if on { 1 } else { 0 }
+}
+
+// Each register's fields as one number, in the image's order. Each weight is what its field's width leaves behind it.
+fn ctlr_number(c: Ctlr) -> u32
+    ensures { λ r. ⌜ (r ≡ ctlrNumber c) × (r < 128) ⌝ }
+{
+    64 * one(c.hsion)
+        + 32 * one(c.hsebyp)
+        + 16 * one(c.hseon)
+        + 8 * one(c.csson)
+        + 4 * one(c.pllon)
+        + 2 * one(c.usbhs_pllon)
+        + one(c.eth_pllon)
+}
+
+fn seen_number(s: Seen) -> u32
+    requires { ⌜ s .sws < 4 ⌝ }
+    ensures { λ r. ⌜ (r ≡ seenNumber s) × (r < 128) ⌝ }
+{
+    64 * one(s.hsirdy)
+        + 32 * one(s.hserdy)
+        + 16 * one(s.pllrdy)
+        + 8 * one(s.usbhs_pllrdy)
+        + 4 * one(s.eth_pllrdy)
+        + s.sws as u32
+}
+
+// CFGR0's fields up to PPRE2, and those behind it.
+fn cfgr0_early(c: Cfgr0) -> u32
+    requires { ⌜ (c .sw < 4) × (c .pllmul < 32) × (c .hpre < 16) × (c .ppre1 < 8) × (c .ppre2 < 8) ⌝ }
+    ensures { λ r. ⌜ (r ≡ cfgr0Early c) × (r < 262144) ⌝ }
+{
+    65536 * (c.sw as u32)
+        + 32768 * one(c.pllsrc)
+        + 1024 * (c.pllmul as u32)
+        + 64 * (c.hpre as u32)
+        + 8 * (c.ppre1 as u32)
+        + c.ppre2 as u32
+}
+
+fn cfgr0_late(c: Cfgr0) -> u32
+    requires { ⌜ (c .adcpre < 4) × (c .«adc_duty» < 4) ⌝ }
+    ensures { λ r. ⌜ (r ≡ cfgr0Late c) × (r < 32) ⌝ }
+{
+    8 * (c.adcpre as u32) + 4 * one(c.adcsrc) + c.adc_duty as u32
+}
+
+fn cfgr2_number(c: Cfgr2) -> u32
+    requires { ⌜ (c .usbhspllsrc < 4) × (c .usbhspllclk < 4) × (c .syspllsrc < 8) × (c .sysplldiv < 8) ⌝ }
+    ensures { λ r. ⌜ (r ≡ cfgr2Number c) × (r < 8192) ⌝ }
+{
+    2048 * (c.usbhspllsrc as u32)
+        + 512 * (c.usbhspllclk as u32)
+        + 64 * (c.syspllsrc as u32)
+        + 8 * (c.sysplldiv as u32)
+        + 4 * one(c.syspll_gate)
+        + 2 * one(c.rngsrc)
+        + one(c.i2spllsrc)
+}
+
+fn flash_number(c: Flash) -> u32
+    requires { ⌜ c .sckmod < 4 ⌝ }
+    ensures { λ r. ⌜ (r ≡ flashNumber c) × (r < 16) ⌝ }
+{
+    4 * (c.sckmod as u32) + 2 * one(c.lock) + one(c.flock)
+}
+
+// The image's first four bytes as a number, and its last four.
+fn early(f: Fields) -> u32
+    requires { ⌜ Wide f ⌝ }
+    ensures { λ r. ⌜ r ≡ earlyOf f ⌝ }
+{
+    0x200_0000 * ctlr_number(f.ctlr) + 0x4_0000 * seen_number(f.seen) + cfgr0_early(f.cfgr0)
+}
+
+fn late(f: Fields) -> u32
+    requires { ⌜ Wide f ⌝ }
+    ensures { λ r. ⌜ r ≡ lateOf f ⌝ }
+{
+    let clkdiv = f.cfgr3.adc_clkdiv as u32;
+    0x800_0000 * cfgr0_late(f.cfgr0)
+        + 0x4000 * cfgr2_number(f.cfgr2)
+        + 512 * clkdiv
+        + 32 * flash_number(f.flash)
 }
 
 // Writes the image into the first eight bytes; those beyond stay. Refused by 32: fewer bytes; then by 28: a code too wide.
@@ -288,10 +340,10 @@ pub fn write_image(f: Fields, out: &mut [u8]) -> Outcome
     if out.len() < 8 {
         return Outcome::Refused(answer::OUTPUT_TOO_SHORT);
     }
-    let xs = list_of(f);
-    if layout::store(&WIDTHS, &xs, out) {
-        Outcome::Done
-    } else {
-        Outcome::Refused(answer::CODE_NOT_ALLOWED)
+    if !in_width(f) {
+        return Outcome::Refused(answer::CODE_NOT_ALLOWED);
     }
+    let words = [early(f), late(f)];
+    layout::put_numbers(out, 0, &words);
+    Outcome::Done
 }

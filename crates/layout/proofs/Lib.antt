@@ -1,3 +1,4 @@
+pub mod Filling
 pub mod Gathering
 pub mod Laws
 pub mod Loading

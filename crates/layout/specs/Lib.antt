@@ -3,5 +3,6 @@ pub mod Codec
 pub mod Gathered
 pub mod Layout
 pub mod Lent
+pub mod Numbers
 pub mod Order
 pub mod Stored

@@ -1,11 +1,14 @@
 // Records packed most significant bit first: a layout is the list of its fields' widths.
 ghost use mathlib.Core.Path.{_≡_};
 ghost use mathlib.Core.List.{[], _∷_};
-ghost use Prim.Native.Nat.{_-_, _*_, _%_, _^_, _≤_, _<_};
+ghost use Prim.Native.Nat.{_+_, _-_, _*_, _%_, _^_, _≤_, _<_};
+ghost use lib.Dec.{ltb};
 ghost use lib.ListN.{length, getD};
+ghost use lib.Seq.{sets};
 ghost use Rattle.layout.specs.Bits.{bitsAt, flagAt, upTo, fieldAt, loaded};
 ghost use Rattle.layout.specs.Layout.{num, unpack, bytes, fieldFits, storable};
 ghost use Rattle.layout.specs.Gathered.{Fits, Gathers};
+ghost use Rattle.layout.specs.Numbers.{withNumbers};
 ghost use Rattle.layout.specs.Stored.{Stored};
 
 // The bits of a record that don't make a byte yet: `count` of them spell `value`, and go to the byte `at`.
@@ -129,6 +132,39 @@ pub fn four_bytes(x: u32) -> [u8; 4]
         (x / 0x100 % 256) as u8,
         (x % 256) as u8,
     ]
+}
+
+// Whether n numbers of four bytes have no room at a place of so many lent bytes.
+fn no_room(lent: usize, at: usize, n: usize) -> bool
+    ensures { λ r. ⌜ r ≡ ltb lent (at + 4 * n) ⌝ }
+{
+    lent < at || (lent - at) / 4 < n
+}
+
+// Writes a number as four bytes, the most significant first.
+fn put_number(out: &mut [u8], at: usize, x: u32)
+    requires { ⌜ at + 4 ≤ length (now out) ⌝ }
+    ensures { λ _. ⌜ now (out .exit) ≡ sets (now (out .entry)) at (unpack (bytes 4) x) ⌝ }
+{
+    let four = four_bytes(x);
+    out[at] = four[0];
+    out[at + 1] = four[1];
+    out[at + 2] = four[2];
+    out[at + 3] = four[3];
+}
+
+// Writes numbers, four bytes each, one behind another from place `at` on. Where there is no room for all of them, all bytes stay.
+pub fn put_numbers(out: &mut [u8], at: usize, xs: &[u32])
+    ensures { λ _. ⌜ now (out .exit) ≡ withNumbers (now (out .entry)) at (now (xs .entry)) ⌝ }
+{
+    if no_room(out.len(), at, xs.len()) {
+        return;
+    }
+    let mut i = 0;
+    while i < xs.len() {
+        put_number(out, at + 4 * i, xs[i]);
+        i += 1;
+    }
 }
 
 // The field k of a layout, cut out of the bytes s. A width above eight counts as eight, and a field after the first 256, or after the last, is 0.

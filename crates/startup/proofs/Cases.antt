@@ -19,9 +19,10 @@ use Rattle.startup.specs.declared.Startup.{Startup}
 use Rattle.startup.specs.declared.Stepped.{Stepped}
 use Rattle.startup.specs.declared.Reading.{Reading}
 use Rattle.startup.specs.declared.Report.{Report}
+use Rattle.startup.specs.declared.Phase.{Phase}
 use Rattle.startup.specs.declared.Phase.the-variants.{Going, Over}
 use Rattle.startup.specs.declared.FlashKey.the-variants.{NoKey}
-use Rattle.startup.specs.Call.{seenOf, handedBack, Event, back, cameTo, eventOf, callOf, seeing, stepBy, stepOf, keyOf}
+use Rattle.startup.specs.Call.{seenOf, handedBack, Event, back, cameTo, eventOf, callOf, seeing, stepBy, repeatedOf, stepOf, keyOf}
 
 -- What a call comes to, by the definition.
 abbrev pub came : Startup → Fields → Event → Stepped
@@ -45,23 +46,43 @@ module _ (s : Startup) (r : Reading) (x : Clocks) {seen : Seen} {w : Work}
       ap (λ (h : Fields). came s h (eventOf 1000000 s r v)) (eg ∙ ap (withSeen (s .fields)) es) ∙ by-work v e
 
 -- A call by the startup's codes, its phase and the check's answer.
-module _ (s : Startup) (r : Reading) {v w : Bool} (ev : v ≡ namedOf (s .config)) (ew : w ≡ inWidth (s .fields)) where
-  chosen : (b : Bool) → (not v || not w) ≡ b → cond b (handedBack s) (stepBy (checkOf (s .config)) s r (s .phase)) ≡ stepOf s r
+module _ (s : Startup) (r : Reading) {w : Bool} (ew : w ≡ inWidth (s .fields)) where
+  pub call-wide : not w ≡ true → handedBack s ≡ stepOf s r
   unfolding stepOf
-  chosen b e =
-      ap (λ (t : Bool). cond t (handedBack s) (stepBy (checkOf (s .config)) s r (s .phase)))
-      (sym e ∙ ap (λ (t : Bool). not t || not w) ev ∙ ap (λ (t : Bool). not (namedOf (s .config)) || not t) ew)
+  call-wide e = by-names (namedOf (s .config)) (sym (ap not ew) ∙ e)
+    where
+      by-names : (n : Bool) {b : Bool} → b ≡ true → handedBack s ≡ cond (not n || b) (handedBack s) (stepBy (checkOf (s .config)) s r (s .phase))
+      by-names true q = rw q
+      by-names false q = refl
 
-  pub call-code : (not v || not w) ≡ true → handedBack s ≡ stepOf s r
-  call-code e = chosen true e
+  module _ (e : not w ≡ false) where
+    in-width : cond (not (namedOf (s .config))) (handedBack s) (stepBy (checkOf (s .config)) s r (s .phase)) ≡ stepOf s r
+    unfolding stepOf
+    in-width = by-names (namedOf (s .config)) (sym (ap not ew) ∙ e)
+      where
+        by-names : (n : Bool) {b : Bool} → b ≡ false →
+            cond (not n) (handedBack s) (stepBy (checkOf (s .config)) s r (s .phase)) ≡
+            cond (not n || b) (handedBack s) (stepBy (checkOf (s .config)) s r (s .phase))
+        by-names true q = rw q
+        by-names false q = refl
 
-  pub call-over : (not v || not w) ≡ false → (last : Report) → s .phase ≡ Over last → record { startup = s; report = last } ≡ stepOf s r
-  call-over e last p = ap (stepBy (checkOf (s .config)) s r) (sym p) ∙ chosen false e
+    pub call-over : (last : Report) → s .phase ≡ Over last → repeatedOf s last ≡ stepOf s r
+    call-over last p =
+        ap (λ (h : Phase). cond (not (namedOf (s .config))) (handedBack s) (stepBy (checkOf (s .config)) s r h)) (sym p) ∙ in-width
 
-  pub call-by : (not v || not w) ≡ false → s .phase ≡ Going → {k : Checked} → checkedSays k ≡ checkOf (s .config) → (j : Checked) → k ≡ j →
-      stepBy (checkedSays j) s r Going ≡ stepOf s r
-  call-by e p ek j q =
-      ap (λ (a : Answer ClockRecord). stepBy a s r Going) (ap checkedSays (sym q) ∙ ek) ∙ ap (stepBy (checkOf (s .config)) s r) (sym p) ∙ chosen false e
+    -- The check refuses a code without a name.
+    pub call-by : s .phase ≡ Going → {k : Checked} → checkedSays k ≡ checkOf (s .config) → (j : Checked) → k ≡ j →
+        stepBy (checkedSays j) s r Going ≡ stepOf s r
+    unfolding checkOf
+    call-by p ek j q =
+        ap (λ (a : Answer ClockRecord). stepBy a s r Going) (ap checkedSays (sym q) ∙ ek)
+        ∙ by-names (namedOf (s .config)) refl ∙ ap (λ (h : Phase). cond (not (namedOf (s .config))) (handedBack s) (stepBy (checkOf (s .config)) s r h)) (sym p)
+        ∙ in-width
+      where
+        by-names : (n : Bool) → namedOf (s .config) ≡ n →
+            stepBy (checkOf (s .config)) s r Going ≡ cond (not n) (handedBack s) (stepBy (checkOf (s .config)) s r Going)
+        by-names true o = refl
+        by-names false o = rw o
 
 -- A call by whether its step is listed, with no more readings used than there can be.
 pub call-listed : (s : Startup) (r : Reading) (f : Fields) (w : Work) {b : Bool} → b ≡ listedOf (s .config) (s .step) →

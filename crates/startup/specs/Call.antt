@@ -144,6 +144,10 @@ stepBy check s r (Over last) = record { startup = s; report = last }
 stepBy (refuses n) s r Going = handedBack s
 stepBy (gives x) s r Going = cameTo (nextOf (s .config) (s .step)) s (seeing s r) (comesTo (x .clocks) s r)
 
+-- A startup that is over, asked again, its fields being in width.
+abbrev pub repeatedOf : Startup → Report → Stepped
+repeatedOf s last = cond (not (namedOf (s .config))) (handedBack s) (record { startup = s; report = last })
+
 -- One call: 28 for a code before anything else, without a name in the configuration or too wide in the fields.
 unfoldable pub stepOf : Startup → Reading → Stepped
 stepOf s r =

@@ -9,7 +9,7 @@ ghost use Prim.Native.Nat.{_+_, _≤_, _<_};
 ghost use Rattle.answer.specs.Said.{replySays};
 ghost use Rattle.startup.specs.Writes.{withSeen};
 ghost use Rattle.startup.specs.Steps.{nextOf, workOf};
-ghost use Rattle.startup.specs.Call.{numberOf, namedStep, seenOf, going, handedBack, moved, ended, met, waiting, missed, misread, compared, cameTo, waitedOf, eventOf, seeing, stepOf, startOf, startedSays, maskOf, waitsOwedOf, callBoundOf, keyOf};
+ghost use Rattle.startup.specs.Call.{numberOf, namedStep, seenOf, going, handedBack, moved, ended, met, waiting, missed, misread, compared, cameTo, waitedOf, eventOf, seeing, repeatedOf, stepOf, startOf, startedSays, maskOf, waitsOwedOf, callBoundOf, keyOf};
 use answer::Reply;
 use image::Fields;
 use image::Seen;
@@ -339,6 +339,20 @@ fn work(s: Startup, promised: Clocks, reading: Reading) -> Stepped
     }
 }
 
+// A startup that is over, asked again, its fields being in width: it repeats the last report.
+fn repeated(s: Startup, last: Report) -> Stepped
+    ensures { λ r. ⌜ r ≡ repeatedOf s last ⌝ }
+{
+    let config = s.config;
+    if !v4x7::named_codes(config) {
+        return handed_back(s);
+    }
+    Stepped {
+        startup: s,
+        report: last,
+    }
+}
+
 // A startup of which no step is worked.
 fn begun(config: Config, fields: Fields) -> Startup
     ensures { λ r. ⌜ r ≡ going config fields 1 0 0 ⌝ }
@@ -375,15 +389,13 @@ impl Startup {
         let config = self.config;
         let fields = self.fields;
         let phase = self.phase;
-        if !v4x7::named_codes(config) | !image::in_width(fields) {
+        if !image::in_width(fields) {
             return handed_back(self);
         }
         if let Phase::Over(last) = phase {
-            return Stepped {
-                startup: self,
-                report: last,
-            };
+            return repeated(self, last);
         }
+        // The check refuses a code without a name.
         let checked = config.clocks();
         let Checked::Accepted(accepted) = checked else {
             return handed_back(self);

@@ -6,7 +6,8 @@ use native.Mathlib.Omega.{arith}
 use borrow.Author.Needs.{needs}
 use lib.ListN.{length, take, drop}
 use lib.Seq.{sets, length-sets}
-use Rattle.boards.specs.Tray.{inFours, boardOf, boardsIn, recordsOf}
+use Rattle.layout.specs.Numbers.{inFours}
+use Rattle.boards.specs.Tray.{boardOf, boardsIn, recordsOf}
 use Rattle.boards.proofs.Filling.{its-record, none-stored, board-stored, boards-stored, too-short, uneven, served}
 use Rattle.boards.proofs.tray.Statement.{statement}
 use Rattle.boards.proofs.tray.Tie as tie

@@ -1,11 +1,11 @@
--- `boards::put_number` meets its contract: four stores, one behind another. Assumes nothing.
+-- `layout::put_number` meets its contract: four stores, one behind another. Assumes nothing.
 use mathlib.Core.Path.{_≡_}
 use Prim.Native.Nat.{ℕ, suc, _+_}
 use native.Mathlib.Omega.{arith}
 use borrow.Author.Needs.{needs}
 use lib.ListN.{length-set}
-use Rattle.boards.proofs.put_number.Statement.{statement}
-use Rattle.boards.proofs.put_number.Tie as tie
+use Rattle.layout.proofs.put_number.Statement.{statement}
+use Rattle.layout.proofs.put_number.Tie as tie
 
 returns : tie.Need-returns
 returns c =
