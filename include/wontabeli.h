@@ -1,11 +1,12 @@
 /* The clock library's calls for C99 and C++, on x86-64 hosts. The archive (include/archive) is not for the chips.
  *
  * Every call returns a number: 0, or a refusal (WONTABELI_RNG_WITHOUT_USBHS and so on; docs/REFUSALS.md). Of several reasons it returns the first, in
- * a fixed order. wontabeli_refusal_text(number) is its sentence. Two calls are different: wontabeli_step returns 0 also where the startup ends by 21,
- * 22 or 23, and byte 27 of its place then says so; wontabeli_tray returns 0 also where boards are refused, and their records say so.
+ * a fixed order. wontabeli_refusal_text(number) is its sentence. One call returns 0 also where something is refused: wontabeli_tray, where boards are;
+ * their records say so.
  *
  * What a call gives goes into memory that the caller lends, at its start: frequencies as words of 32 bits, records as bytes; a serial divisor and its
  * error as two numbers of their types. After a refusal nothing that was lent is touched; after a call that is not refused, nothing beyond the record is.
+ * One call is different: wontabeli_step, where it returns 21 or 22, leaves the ended startup in its place.
  * A number of several bytes in a record has the most significant byte first. A byte that says yes or no is 1 or 0.
  *
  * A pointer is valid and aligned for its type and its length, and never null, also where its length is 0; lent memory overlaps nothing else that
@@ -73,20 +74,24 @@ uint8_t wontabeli_write_image(const uint8_t *fields, size_t fields_len, uint8_t 
 
 /* ---- CH32V4x7: the startup ----
  *
- * The host keeps a startup in a place of PLACE_SIZE bytes. It hands the place to each call unchanged, until byte 27 is not PHASE_GOING:
+ * The host keeps a startup in a place of PLACE_SIZE bytes. It hands the place to each call unchanged, until a call returns another number than 0 or
+ * byte 27 is not PHASE_GOING:
  *   0..9    the profile
  *   10..17  the image: the fields that the host writes to the chip
  *   18      the step whose turn it is
  *   19..22  the unmet readings of its wait
  *   23..26  all readings used
  *   27      whether it is over: PHASE_GOING (call again), PHASE_RUNNING (over: the clocks run as the check promised), or the refusal that ended
- *           it: 21, 22 or 23
- *   28      what the last call reports: REPORT_WORKED (the step is worked), REPORT_WAITING (the reading did not meet the step's wait),
+ *           it: 21 or 22
+ *   28      what the last call that changed the place reports: REPORT_WORKED (the step is worked), REPORT_WAITING (the reading did not meet the step's wait),
  *           REPORT_RUNNING (over: the clocks run as the check promised), REPORT_FAILED (over, by the refusal in byte 29)
- *   29      its refusal: 0, 21, 22 or 23
- *   30      the step that it names; 0 before the first call and with 23
+ *   29      its refusal: 0, 21 or 22
+ *   30      the step that it names; 0 before the first call
  *   31      zero
- * A call doesn't look at bytes 28 to 31. PHASE_.. are values of byte 27 alone, REPORT_.. of byte 28 alone.
+ *   32..35  the tick of the first reading of the wait whose turn it is, where bytes 19 to 22 are not 0
+ *   36..67  the ticks of the eight waits, steps 2, 4, 7, 10, 12, 15, 18 and 27, four bytes each
+ *   68..71  the longest of them
+ * A call doesn't look at bytes 28 to 31 and 68 to 71. PHASE_.. are values of byte 27 alone, REPORT_.. of byte 28 alone.
  *
  * After each call that returns 0 the host writes to the chip, in this order:
  *   1. the image's fields that changed, but never the ready bits and SWS, which only the chip writes. Where byte 30 is 20: SCKMOD, LOCK and FLOCK
@@ -95,17 +100,29 @@ uint8_t wontabeli_write_image(const uint8_t *fields, size_t fields_len, uint8_t 
  * LOCK and FLOCK, written again after the keys, would lock the flash, and step 21 would end by 22. docs/STARTUP.md has the steps and a driving
  * loop. */
 
-/* Starts a startup with a profile and the image of the registers as they are. It works no step.
- * Refused by 32, 29, 30, 31, then by the check's 1 to 16. */
+/* Starts a startup with a profile and the image of the registers as they are. It works no step, and all ticks are 0.
+ * Refused by 32, 29, 30, 31, then by the check's 1 to 16. The place then stays as it was: byte 27 is an earlier startup's, so go by the number. */
 uint8_t wontabeli_start(const uint8_t *profile, size_t profile_len, const uint8_t *image, size_t image_len, uint8_t *place, size_t place_len);
 
-/* One call: one step's work done or one reading used; the place says how it went. It returns 0 also where the startup ends by 21, 22 or 23: call
- * until byte 27 is not PHASE_GOING. After the end it repeats its last answer. The reading is the sum of HSIRDY, HSERDY, PLLRDY, USBHS_PLLRDY and
- * ETH_PLLRDY where they are set, SWS times its value and SCKMOD times its value; bits above are not looked at.
- * Refused by 32; by 30 or 31 where the place's profile or image can't be read; by 28 where byte 27 has none of its values or, in a startup that is
- * not over, the check refuses the profile, the step is not one of the profile's, the unmet readings pass 999,999, or the used ones 8,000,001. The
- * place then stays as it was. Other damage is not noticed: the startup is worked as it stands. */
-uint8_t wontabeli_step(uint8_t *place, size_t place_len, uint16_t reading);
+/* One call: one step's work done or one reading used. The host calls until another number than 0 comes back or byte 27 is not PHASE_GOING.
+ * The reading is the sum of HSIRDY, HSERDY, PLLRDY, USBHS_PLLRDY and ETH_PLLRDY where they are set, SWS times its value and SCKMOD times its value;
+ * bits above are not looked at. The tick is what a free-running counter of 32 bits showed at that reading; a host without one hands in 0.
+ *
+ * It returns
+ *   0        the place says how it went.
+ *   21, 22   the startup is over: a wait failed, or the flash mode read back differs. The place holds the ended startup; byte 30 is the step.
+ *   others   refused, and the place stays as it was: 32; 30 or 31 where the place's profile or image can't be read; 28 where byte 27 has none of its
+ *            values or, in a startup that is not over, the check refuses the profile, the step is not one of the profile's, its wait's unmet readings pass
+ *            999,999, or the used ones 8,000,001; 23 where the clocks differ after the switch, or byte 27 is 23, which no call leaves. A host that
+ *            keeps the place's bytes as a call left them, and lends them all, sees none of these.
+ * On a place that is over, a call changes no byte and returns the number of the end again: 0 where the clocks run, else 21 or 22. Other damage of a
+ * place is not noticed: the startup is worked as it stands.
+ *
+ * Ticks: a wait's number is the ticks from its first reading to the met one, modulo 2^32. So the counter may wrap; a wait longer than a full turn
+ * of it shows the remainder only. The number is 0 before its wait is met, for good where the wait is skipped or fails, and where the first reading
+ * meets it. Only the ticks of the eight waits' readings count: not those of a call that uses no reading, and not step 21's. Ticks change nothing
+ * else: a wait still fails at its 1,000,000th unmet reading, however long that took. */
+uint8_t wontabeli_step(uint8_t *place, size_t place_len, uint16_t reading, uint32_t tick);
 
 /* The keys that the host writes when a call names step 19, in their order: positions 0 to 3. Gives PAIR_WORDS words: KEYR or MODEKEYR, and the key.
  * Refused by 32; by 28 above 3. */

@@ -63,15 +63,18 @@
 #define WONTABELI_IMAGE_FIELDS 34 /* The fields of an image, in bytes, one a field; the filling is the last. */
 
 /* The numbers of crates/capi_startup. */
-#define WONTABELI_PLACE_SIZE 32 /* A place's bytes. Its first ten are the profile. */
+#define WONTABELI_PLACE_SIZE 72 /* A place's bytes. Its first ten are the profile. */
 #define WONTABELI_PLACE_IMAGE 10 /* The image, eight bytes: after a call the host writes its fields to the chip, but for the ready bits and SWS. */
 #define WONTABELI_PLACE_STEP 18 /* The step whose turn it is. */
 #define WONTABELI_PLACE_UNMET 19 /* The unmet readings of its wait, four bytes. */
 #define WONTABELI_PLACE_USED 23 /* All readings used, four bytes. */
-#define WONTABELI_PLACE_PHASE 27 /* Whether the startup is over: PHASE_GOING, PHASE_RUNNING, or the refusal that ended it (21, 22 or 23). */
-#define WONTABELI_PLACE_REPORT 28 /* What the last call reports: a REPORT_ number. */
-#define WONTABELI_PLACE_NUMBER 29 /* The last call's refusal: 0, 21, 22 or 23. */
-#define WONTABELI_PLACE_NAMED 30 /* The step that the last call names; 0 before the first call and with 23. */
+#define WONTABELI_PLACE_PHASE 27 /* Whether the startup is over: PHASE_GOING, PHASE_RUNNING, or the refusal that ended it (21 or 22). */
+#define WONTABELI_PLACE_REPORT 28 /* What the last call that changed the place reports: a REPORT_ number. */
+#define WONTABELI_PLACE_NUMBER 29 /* That call's refusal: 0, 21 or 22. */
+#define WONTABELI_PLACE_NAMED 30 /* The step that it names; 0 before the first call. */
+#define WONTABELI_PLACE_FIRST_TICK 32 /* The tick of the first reading of the wait whose turn it is, four bytes; it counts where PLACE_UNMET is not 0. */
+#define WONTABELI_PLACE_TICKS 36 /* The ticks of the eight waits (steps 2, 4, 7, 10, 12, 15, 18 and 27), four bytes each. */
+#define WONTABELI_PLACE_LONGEST 68 /* The longest of them, four bytes. */
 #define WONTABELI_PHASE_GOING 0 /* In byte PLACE_PHASE: not over, call again. */
 #define WONTABELI_PHASE_RUNNING 1 /* In byte PLACE_PHASE: over, and the clocks run as the check promised. */
 #define WONTABELI_REPORT_WORKED 0 /* In byte PLACE_REPORT: the step is worked; at 19 the host writes the keys. */

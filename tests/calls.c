@@ -174,11 +174,13 @@ static void images(void)
     }
 }
 
+/* Row A11: HSI alone. Its startup works the steps 1 to 7, 19 to 23 and 26 to 28, and has the waits 2, 4, 7 and 27. */
+static const uint8_t a11[10] = {0, 0, 0, 0, 0, 0x18, 0, 0, 0, 0x34}, image[8] = {0};
+
 static void startups(void)
 {
     static const uint32_t keys[4][2] = {
         {WONTABELI_KEYR, 0x45670123}, {WONTABELI_KEYR, 0xCDEF89AB}, {WONTABELI_MODEKEYR, 0x45670123}, {WONTABELI_MODEKEYR, 0xCDEF89AB}};
-    static const uint8_t profile[10] = {0, 0, 0, 0, 0, 0x18, 0, 0, 0, 0x34}, image[8] = {0};
     uint8_t place[WONTABELI_PLACE_SIZE + 1];
     int n;
     for (n = 0; n < 4; n++) {
@@ -187,35 +189,38 @@ static void startups(void)
         IS(out[1], keys[n][1]);
     }
     IS(wontabeli_flash_key(4, out, 2), WONTABELI_CODE_NOT_ALLOWED);
+    IS(WONTABELI_PLACE_SIZE, 72);
     memset(place, 0xee, sizeof place);
-    IS(wontabeli_start(profile, 10, image, 8, place, 31), WONTABELI_OUTPUT_TOO_SHORT);
-    IS(wontabeli_start(profile, 10, image, 8, place, sizeof place), 0);
-    SAME(place, 0, 0, 0, 0, 0, 0x18, 0, 0, 0, 0x34, 0, 0, 0, 0, 0, 0, 0, 0, 1, 0, 0, 0, 0, 0, 0, 0, 0, 0, WONTABELI_REPORT_WORKED, 0, 0, 0, 0xee);
+    IS(wontabeli_start(a11, 10, image, 8, place, 71), WONTABELI_OUTPUT_TOO_SHORT);
+    for (n = 0; n < WONTABELI_PLACE_SIZE + 1; n++)
+        IS(place[n], 0xee);
+    IS(wontabeli_start(a11, 10, image, 8, place, sizeof place), 0);
+    SAME(place, 0, 0, 0, 0, 0, 0x18, 0, 0, 0, 0x34, 0, 0, 0, 0, 0, 0, 0, 0, 1, 0, 0, 0, 0, 0, 0, 0, 0, 0, WONTABELI_REPORT_WORKED, 0, 0, 0,
+        0, 0, 0, 0, 0, 0, 0, 0, 0, 0, 0, 0, 0, 0, 0, 0, 0, 0, 0, 0, 0, 0, 0, 0, 0, 0, 0, 0, 0, 0, 0, 0, 0, 0, 0, 0, 0, 0, 0, 0, 0xee);
     /* step 1 writes HSION; then HSI is waited for, and read ready */
-    IS(wontabeli_step(place, sizeof place, 0), 0);
+    IS(wontabeli_step(place, sizeof place, 0, 7), 0);
     IS(place[WONTABELI_PLACE_IMAGE], 0x80);
     IS(place[WONTABELI_PLACE_NAMED], 1);
-    IS(wontabeli_step(place, sizeof place, WONTABELI_SWS * 3), 0);
+    IS(wontabeli_step(place, sizeof place, WONTABELI_SWS * 3, 8), 0);
     IS(place[WONTABELI_PLACE_REPORT], WONTABELI_REPORT_WAITING);
     IS(place[WONTABELI_PLACE_UNMET + 3], 1);
     IS(place[WONTABELI_PLACE_USED + 3], 1);
-    IS(wontabeli_step(place, sizeof place, WONTABELI_HSIRDY), 0);
+    IS(wontabeli_step(place, sizeof place, WONTABELI_HSIRDY, 9), 0);
     IS(place[WONTABELI_PLACE_REPORT], WONTABELI_REPORT_WORKED);
     IS(place[WONTABELI_PLACE_STEP], 3);
     IS(place[WONTABELI_PLACE_USED + 3], 2);
-    IS(place[32], 0xee);
+    IS(place[72], 0xee);
     place[WONTABELI_PLACE_PHASE] = 7;
-    IS(wontabeli_step(place, sizeof place, 0), WONTABELI_CODE_NOT_ALLOWED);
+    IS(wontabeli_step(place, sizeof place, 0, 10), WONTABELI_CODE_NOT_ALLOWED);
 }
 
 /* A startup of row A11 whose calls had good readings, before this step. */
 static void before(uint8_t *place, int step)
 {
-    static const uint8_t profile[10] = {0, 0, 0, 0, 0, 0x18, 0, 0, 0, 0x34}, image[8] = {0};
     int n;
-    IS(wontabeli_start(profile, 10, image, 8, place, WONTABELI_PLACE_SIZE), 0);
+    IS(wontabeli_start(a11, 10, image, 8, place, WONTABELI_PLACE_SIZE), 0);
     for (n = 0; n < 28 && place[WONTABELI_PLACE_STEP] != step; n++)
-        IS(wontabeli_step(place, WONTABELI_PLACE_SIZE, WONTABELI_HSIRDY), 0);
+        IS(wontabeli_step(place, WONTABELI_PLACE_SIZE, WONTABELI_HSIRDY, 0), 0);
     IS(place[WONTABELI_PLACE_STEP], step);
 }
 
@@ -229,17 +234,35 @@ static void readings(void)
     unsigned n;
     for (n = 0; n < sizeof list / sizeof *list; n++) {
         before(place, 2);
-        IS(wontabeli_step(place, sizeof place, list[n].reading), 0);
+        IS(wontabeli_step(place, sizeof place, list[n].reading, 0), 0);
         IS(place[WONTABELI_PLACE_IMAGE], list[n].first);
         IS(place[WONTABELI_PLACE_IMAGE + 1], list[n].second);
     }
     for (n = 0; n < 4; n++) {
         before(place, 21);
-        IS(wontabeli_step(place, sizeof place, (uint16_t)(WONTABELI_HSIRDY + WONTABELI_SCKMOD * n)), 0);
+        IS(wontabeli_step(place, sizeof place, (uint16_t)(WONTABELI_HSIRDY + WONTABELI_SCKMOD * n), 0), n == 0 ? 0 : WONTABELI_FLASH_MODE_DIFFERS);
         IS(place[WONTABELI_PLACE_PHASE], n == 0 ? 0 : WONTABELI_FLASH_MODE_DIFFERS);
         /* readings used at steps 2, 4, 7 and 21; no wait is going on */
         SAME(place + WONTABELI_PLACE_UNMET, 0, 0, 0, 0, 0, 0, 0, 4);
     }
+}
+
+/* A startup that is over: a call changes no byte, whatever is handed in, and returns its number again. */
+static void stays_over(uint8_t *place, uint8_t number)
+{
+    static const uint16_t list[] = {0, WONTABELI_HSIRDY, WONTABELI_SWS * 2 + WONTABELI_SCKMOD, 0xffff};
+    uint8_t last[WONTABELI_PLACE_SIZE];
+    unsigned n;
+    memcpy(last, place, sizeof last);
+    for (n = 0; n < sizeof list / sizeof *list; n++) {
+        IS(wontabeli_step(place, WONTABELI_PLACE_SIZE, list[n], 0x01234567 + n), number);
+        IS(memcmp(place, last, sizeof last), 0);
+    }
+    /* also where the bytes that a call doesn't look at are damaged */
+    place[WONTABELI_PLACE_NUMBER] = place[WONTABELI_PLACE_LONGEST] = 0xee;
+    memcpy(last, place, sizeof last);
+    IS(wontabeli_step(place, WONTABELI_PLACE_SIZE, 0, 0), number);
+    IS(memcmp(place, last, sizeof last), 0);
 }
 
 /* The 1,000,000th unmet reading of step 2, after which the place stays; a count beyond it is none that a starting leads to. */
@@ -249,17 +272,69 @@ static void failing(void)
     static const uint8_t counts[8] = {0, 0x0f, 0x42, 0x3f, 0, 0x0f, 0x42, 0x3f};
     before(place, 2);
     memcpy(place + WONTABELI_PLACE_UNMET, counts, sizeof counts);
-    IS(wontabeli_step(place, sizeof place, 0), 0);
+    IS(wontabeli_step(place, sizeof place, 0, 0), WONTABELI_WAIT_FAILED);
     SAME(place + WONTABELI_PLACE_STEP, 2, 0, 0x0f, 0x42, 0x40, 0, 0x0f, 0x42, 0x40, 21, WONTABELI_REPORT_FAILED, 21, 2, 0);
     memcpy(last, place, sizeof last);
-    IS(wontabeli_step(place, sizeof place, WONTABELI_HSIRDY), 0);
-    IS(memcmp(place, last, sizeof last), 0);
-    place[WONTABELI_PLACE_PHASE] = 0;
-    IS(wontabeli_step(place, sizeof place, WONTABELI_HSIRDY), WONTABELI_CODE_NOT_ALLOWED);
-    /* over, and AHB code 1 in the profile: the reader's 30 first */
+    stays_over(place, WONTABELI_WAIT_FAILED);
     memcpy(place, last, sizeof last);
-    place[6] |= 0x01;
-    IS(wontabeli_step(place, sizeof place, 0), WONTABELI_PROFILE_CODE);
+    place[WONTABELI_PLACE_PHASE] = 0;
+    IS(wontabeli_step(place, sizeof place, WONTABELI_HSIRDY, 0), WONTABELI_CODE_NOT_ALLOWED);
+    last[WONTABELI_PLACE_PHASE] = 0;
+    IS(memcmp(place, last, sizeof last), 0);
+    /* over, and AHB code 1 in the profile: the reader's 30 first */
+    last[WONTABELI_PLACE_PHASE] = 21;
+    last[6] |= 0x01;
+    memcpy(place, last, sizeof last);
+    IS(wontabeli_step(place, sizeof place, 0, 0), WONTABELI_PROFILE_CODE);
+    IS(memcmp(place, last, sizeof last), 0);
+}
+
+/* Step 21 reads another flash mode. The steps 2, 4 and 7 used a reading each, and this is the fourth. */
+static void flash_mode(void)
+{
+    uint8_t place[WONTABELI_PLACE_SIZE], ticks[40];
+    before(place, 21);
+    memcpy(ticks, place + WONTABELI_PLACE_FIRST_TICK, sizeof ticks);
+    IS(wontabeli_step(place, sizeof place, WONTABELI_HSIRDY + WONTABELI_SCKMOD, 99), WONTABELI_FLASH_MODE_DIFFERS);
+    SAME(place + WONTABELI_PLACE_STEP, 21, 0, 0, 0, 0, 0, 0, 0, 4, 22, WONTABELI_REPORT_FAILED, 22, 21, 0);
+    IS(memcmp(place + WONTABELI_PLACE_FIRST_TICK, ticks, sizeof ticks), 0);
+    stays_over(place, WONTABELI_FLASH_MODE_DIFFERS);
+}
+
+/* Step 28 ends a startup that runs. Step 27's is the fifth reading. */
+static void running(void)
+{
+    uint8_t place[WONTABELI_PLACE_SIZE];
+    before(place, 28);
+    IS(wontabeli_step(place, sizeof place, 0, 99), 0);
+    SAME(place + WONTABELI_PLACE_STEP, 28, 0, 0, 0, 0, 0, 0, 0, 5, WONTABELI_PHASE_RUNNING, WONTABELI_REPORT_RUNNING, 0, 28, 0);
+    stays_over(place, 0);
+}
+
+/* 23 and 28 leave every byte, at each call anew. The image's bits 26 to 28 are PPRE1: 4 there makes PCLK1 10 MHz, and the check promised 20. Step 8 is
+ * skipped where there is no HSE. */
+static void differing(void)
+{
+    uint8_t place[WONTABELI_PLACE_SIZE], last[WONTABELI_PLACE_SIZE];
+    int n;
+    before(place, 28);
+    place[WONTABELI_PLACE_IMAGE + 3] |= 0x20;
+    memcpy(last, place, sizeof last);
+    for (n = 0; n < 3; n++) {
+        IS(wontabeli_step(place, sizeof place, WONTABELI_HSIRDY, 99), WONTABELI_CLOCKS_DIFFER);
+        IS(memcmp(place, last, sizeof last), 0);
+    }
+    /* the field mended, it runs */
+    place[WONTABELI_PLACE_IMAGE + 3] ^= 0x20;
+    IS(wontabeli_step(place, sizeof place, WONTABELI_HSIRDY, 99), 0);
+    IS(place[WONTABELI_PLACE_PHASE], WONTABELI_PHASE_RUNNING);
+    before(place, 7);
+    place[WONTABELI_PLACE_STEP] = 8;
+    memcpy(last, place, sizeof last);
+    for (n = 0; n < 3; n++) {
+        IS(wontabeli_step(place, sizeof place, 0, 99), WONTABELI_CODE_NOT_ALLOWED);
+        IS(memcmp(place, last, sizeof last), 0);
+    }
 }
 
 /* Several records wrong at once: 32, then the profile's 29 or 30, then the image's 31, then 28 or the check's. */
@@ -267,30 +342,331 @@ static void wrong_together(void)
 {
     /* HSE 4,999,999 (4); the same with the last bit of the filling set (30) */
     uint8_t profile[10] = {0x80, 0x13, 0x12, 0xcf, 0xc0, 0x18, 0, 0, 0, 0x34}, filled[10] = {0x80, 0x13, 0x12, 0xcf, 0xc0, 0x18, 0, 0, 0, 0x35};
-    uint8_t image[8] = {0, 0, 0, 0, 0, 0, 0, 1}, zero[8] = {0}, place[WONTABELI_PLACE_SIZE], kept[WONTABELI_PLACE_SIZE];
+    uint8_t filled_image[8] = {0, 0, 0, 0, 0, 0, 0, 1}, place[WONTABELI_PLACE_SIZE], kept[WONTABELI_PLACE_SIZE];
     memset(kept, 0xee, sizeof kept);
     memcpy(place, kept, sizeof place);
-    IS(wontabeli_start(filled, 9, image, 7, place, 31), WONTABELI_OUTPUT_TOO_SHORT);
-    IS(wontabeli_start(filled, 9, image, 7, place, sizeof place), WONTABELI_PROFILE_LENGTH);
-    IS(wontabeli_start(filled, 10, image, 8, place, sizeof place), WONTABELI_PROFILE_CODE);
-    IS(wontabeli_start(profile, 10, image, 8, place, sizeof place), WONTABELI_IMAGE_LENGTH_OR_FILLING);
-    IS(wontabeli_start(profile, 10, zero, 8, place, sizeof place), WONTABELI_HSE_OUT_OF_RANGE);
+    IS(wontabeli_start(filled, 9, filled_image, 7, place, 71), WONTABELI_OUTPUT_TOO_SHORT);
+    IS(wontabeli_start(filled, 9, filled_image, 7, place, sizeof place), WONTABELI_PROFILE_LENGTH);
+    IS(wontabeli_start(filled, 10, filled_image, 8, place, sizeof place), WONTABELI_PROFILE_CODE);
+    IS(wontabeli_start(profile, 10, filled_image, 8, place, sizeof place), WONTABELI_IMAGE_LENGTH_OR_FILLING);
+    IS(wontabeli_start(profile, 10, image, 8, place, sizeof place), WONTABELI_HSE_OUT_OF_RANGE);
     IS(memcmp(place, kept, sizeof place), 0);
     /* the same records in a place, with a phase and a step that no startup has */
     memset(kept, 0, sizeof kept);
     memcpy(kept, filled, 10);
-    memcpy(kept + WONTABELI_PLACE_IMAGE, image, 8);
+    memcpy(kept + WONTABELI_PLACE_IMAGE, filled_image, 8);
     kept[WONTABELI_PLACE_PHASE] = 7;
     memcpy(place, kept, sizeof place);
-    IS(wontabeli_step(place, 31, 0), WONTABELI_OUTPUT_TOO_SHORT);
-    IS(wontabeli_step(place, sizeof place, 0), WONTABELI_PROFILE_CODE);
+    IS(wontabeli_step(place, 71, 0, 0), WONTABELI_OUTPUT_TOO_SHORT);
+    IS(wontabeli_step(place, sizeof place, 0, 0), WONTABELI_PROFILE_CODE);
     IS(memcmp(place, kept, sizeof place), 0);
     memcpy(place, profile, 10);
-    IS(wontabeli_step(place, sizeof place, 0), WONTABELI_IMAGE_LENGTH_OR_FILLING);
+    IS(wontabeli_step(place, sizeof place, 0, 0), WONTABELI_IMAGE_LENGTH_OR_FILLING);
     place[WONTABELI_PLACE_IMAGE + 7] = 0;
-    IS(wontabeli_step(place, sizeof place, 0), WONTABELI_CODE_NOT_ALLOWED);
+    IS(wontabeli_step(place, sizeof place, 0, 0), WONTABELI_CODE_NOT_ALLOWED);
     IS(wontabeli_waits_owed(filled, 10, out), WONTABELI_PROFILE_CODE);
     IS(wontabeli_call_bound(filled, 10, out), WONTABELI_PROFILE_CODE);
+}
+
+/* ---- The ticks of the waits, document 02's K5 ---- */
+
+enum { WAITS = 8 };
+
+/* The steps that wait, with a reading that doesn't meet the wait of a startup to the main PLL, and one that does. */
+static const struct wait { uint8_t step; uint16_t unmet, met; } waits[WAITS] = {
+    {2, 0, WONTABELI_HSIRDY}, {4, WONTABELI_SWS, 0}, {7, WONTABELI_HSERDY, WONTABELI_HSIRDY}, {10, 0, WONTABELI_HSERDY}, {12, 0, WONTABELI_ETH_PLLRDY},
+    {15, 0, WONTABELI_USBHS_PLLRDY}, {18, 0, WONTABELI_PLLRDY}, {27, 0, WONTABELI_SWS * 2}};
+
+/* A profile with every part: HSE 25 MHz, ETH and USBHS PLL, main PLL x 16 by 2, AHB by 2. HCLK is 100 MHz, so SCKMOD is 0. It skips no step. */
+static const uint8_t every_part[10] = {0xc0, 0x5f, 0x5e, 0x10, 0x2d, 0x98, 0xcc, 0x58, 0xc1, 0x34};
+
+static uint32_t number_at(const uint8_t *place, int at)
+{
+    return (uint32_t)place[at] << 24 | (uint32_t)place[at + 1] << 16 | (uint32_t)place[at + 2] << 8 | place[at + 3];
+}
+
+static void put_number(uint8_t *place, int at, uint32_t number)
+{
+    int n;
+    for (n = 0; n < 4; n++)
+        place[at + n] = (uint8_t)(number >> (24 - 8 * n));
+}
+
+static void ticks_are(int line, const uint8_t *place, const uint32_t *eight, uint32_t longest)
+{
+    int n;
+    for (n = 0; n < WAITS; n++)
+        is(line, number_at(place, 36 + 4 * n), eight[n]);
+    is(line, number_at(place, 68), longest);
+}
+
+/* Which wait a place is at; WAITS where it is at none. */
+static int wait_at(const uint8_t *place)
+{
+    int n;
+    for (n = 0; n < WAITS && waits[n].step != place[WONTABELI_PLACE_STEP]; n++) {
+    }
+    return n;
+}
+
+/* Every wait with so many unmet readings before the met one, and a counter that goes 7 on with each call: 7 ticks for each unmet reading. Step 10's first
+ * reading is call 16 (15 before it: 1 + 2 + 1 + 3 + 1 + 1 + 4 + 1 + 1 for the steps 1 to 9), at 2^32 - 256 + 7 x 15 = 2^32 - 151; its met one is call 66,
+ * at 7 x 65 - 256 = 199. That is 350 ticks, across the counter's end. After each call the waits that are met have their ticks, and the others 0. */
+static void full_boot(void)
+{
+    static const int unmet[WAITS] = {1, 2, 3, 50, 4, 5, 6, 0};
+    static const uint32_t ticks[WAITS] = {7, 14, 21, 350, 28, 35, 42, 0}, longest[WAITS] = {7, 14, 21, 350, 350, 350, 350, 350};
+    uint8_t place[WONTABELI_PLACE_SIZE + 2];
+    uint32_t met[WAITS] = {0}, most = 0, tick = 0xffffff00;
+    int readings = 0, calls;
+    memset(place, 0xee, sizeof place);
+    IS(wontabeli_start(every_part, 10, image, 8, place, sizeof place), 0);
+    /* 28 calls, and one more for each unmet reading: 71 of them */
+    for (calls = 0; calls < 28 + 71; calls++) {
+        int wait = wait_at(place);
+        uint16_t reading = 0;
+        if (wait < WAITS && readings < unmet[wait]) {
+            reading = waits[wait].unmet;
+            readings++;
+        } else if (wait < WAITS) {
+            reading = waits[wait].met;
+            readings = 0;
+            met[wait] = ticks[wait];
+            most = longest[wait];
+        }
+        IS(place[WONTABELI_PLACE_PHASE], WONTABELI_PHASE_GOING);
+        IS(wontabeli_step(place, sizeof place, reading, tick), 0);
+        ticks_are(__LINE__, place, met, most);
+        tick += 7;
+    }
+    IS(place[WONTABELI_PLACE_PHASE], WONTABELI_PHASE_RUNNING);
+    ticks_are(__LINE__, place, ticks, 350);
+    /* 71 unmet readings, 8 met ones, and step 21's */
+    IS(number_at(place, WONTABELI_PLACE_USED), 80);
+    IS(place[72], 0xee);
+    IS(place[73], 0xee);
+    /* started anew, the place has no ticks; a refused start leaves them */
+    memset(met, 0, sizeof met);
+    IS(wontabeli_start(every_part, 10, image, 7, place, sizeof place), WONTABELI_IMAGE_LENGTH_OR_FILLING);
+    ticks_are(__LINE__, place, ticks, 350);
+    IS(wontabeli_start(a11, 10, image, 8, place, sizeof place), 0);
+    ticks_are(__LINE__, place, met, 0);
+    IS(number_at(place, WONTABELI_PLACE_FIRST_TICK), 0);
+    IS(place[72], 0xee);
+}
+
+/* Step 2's readings at these ticks, the last of them met: how many ticks the wait took. */
+static void odd_ticks(void)
+{
+    static const struct { int readings; uint32_t at[5], ticks; } list[] = {
+        /* across the end of the counter: 16 up to it, 16 from there */
+        {2, {0xfffffff0, 0x10}, 32},
+        {4, {0xfffffff0, 0xfffffff8, 0, 0x10}, 32},
+        /* met by the first reading */
+        {1, {0x12345678}, 0},
+        {1, {0}, 0},
+        /* no further, one short of a turn, the last tick and the first */
+        {3, {77, 77, 77}, 0},
+        {2, {1, 0}, 0xffffffff},
+        {2, {0, 0xffffffff}, 0xffffffff},
+        {2, {0xffffffff, 0}, 1},
+        /* more than a full turn: 1,000 to 1,007 by way of the counter's end shows 7; a turn exactly shows 0 */
+        {4, {1000, 3000000000u, 500, 1007}, 7},
+        {5, {1000, 2000000000u, 4000000000u, 0, 1000}, 0},
+        /* the readings between don't count, and a wait does not fail by its ticks */
+        {5, {5, 4000000000u, 3, 999, 105}, 100}};
+    unsigned n;
+    for (n = 0; n < sizeof list / sizeof *list; n++) {
+        uint8_t place[WONTABELI_PLACE_SIZE];
+        uint32_t eight[WAITS] = {0};
+        int r;
+        before(place, 2);
+        for (r = 0; r < list[n].readings; r++) {
+            ticks_are(__LINE__, place, eight, 0);
+            IS(wontabeli_step(place, sizeof place, r + 1 == list[n].readings ? WONTABELI_HSIRDY : 0, list[n].at[r]), 0);
+            IS(place[WONTABELI_PLACE_STEP], r + 1 == list[n].readings ? 3 : 2);
+            if (r + 1 < list[n].readings) IS(number_at(place, WONTABELI_PLACE_FIRST_TICK), list[n].at[0]);
+        }
+        eight[0] = list[n].ticks;
+        ticks_are(__LINE__, place, eight, list[n].ticks);
+    }
+}
+
+/* Step 2 takes 5 ticks and step 4 takes 3. Step 7 has 1,000,000 readings that don't meet it, 2 ticks after one another: it fails, its ticks stay 0, and the
+ * longest stays 5. It used 2 + 2 + 1,000,000 readings, 0xf4244. */
+static void failed_wait(void)
+{
+    static const uint32_t eight[WAITS] = {5, 3};
+    uint8_t place[WONTABELI_PLACE_SIZE + 1], last[WONTABELI_PLACE_SIZE];
+    uint32_t tick;
+    int n;
+    before(place, 2);
+    place[72] = 0xee;
+    IS(wontabeli_step(place, sizeof place, 0, 0xfffffffe), 0);
+    IS(wontabeli_step(place, sizeof place, WONTABELI_HSIRDY, 3), 0);
+    IS(wontabeli_step(place, sizeof place, 0, 50), 0);
+    IS(wontabeli_step(place, sizeof place, WONTABELI_SWS, 60), 0);
+    IS(wontabeli_step(place, sizeof place, 0, 63), 0);
+    for (n = 0; n < 2; n++)
+        IS(wontabeli_step(place, sizeof place, 0, 64), 0);
+    IS(place[WONTABELI_PLACE_STEP], 7);
+    for (n = 1, tick = 100; n < 1000000; n++, tick += 2)
+        if (wontabeli_step(place, sizeof place, WONTABELI_HSERDY, tick) != 0) break;
+    IS(n, 1000000);
+    IS(number_at(place, WONTABELI_PLACE_UNMET), 999999);
+    IS(number_at(place, WONTABELI_PLACE_FIRST_TICK), 100);
+    IS(place[WONTABELI_PLACE_PHASE], WONTABELI_PHASE_GOING);
+    IS(wontabeli_step(place, sizeof place, WONTABELI_HSERDY, tick), WONTABELI_WAIT_FAILED);
+    SAME(place + WONTABELI_PLACE_STEP, 7, 0, 0x0f, 0x42, 0x40, 0, 0x0f, 0x42, 0x44, 21, WONTABELI_REPORT_FAILED, 21, 7, 0);
+    ticks_are(__LINE__, place, eight, 5);
+    /* what a call after the end is handed changes nothing, not even a reading that would have met the wait */
+    memcpy(last, place, sizeof last);
+    IS(wontabeli_step(place, sizeof place, WONTABELI_HSIRDY, 7), WONTABELI_WAIT_FAILED);
+    IS(memcmp(place, last, sizeof last), 0);
+    IS(place[72], 0xee);
+    stays_over(place, WONTABELI_WAIT_FAILED);
+}
+
+/* A whole startup of row A11, in which every call but those of the waits has some odd tick: these change no byte of the ticks. Each wait has one unmet
+ * reading at 1,000 and is met at 1,000 and its step: 2, 4, 7 and 27 ticks. The waits 10, 12, 15 and 18 are skipped, and stay 0. */
+static void uncounted(void)
+{
+    static const uint32_t eight[WAITS] = {2, 4, 7, 0, 0, 0, 0, 27};
+    uint8_t place[WONTABELI_PLACE_SIZE], ticks[40];
+    uint32_t odd = 0x9e3779b9;
+    int calls;
+    IS(wontabeli_start(a11, 10, image, 8, place, sizeof place), 0);
+    for (calls = 0; calls < 28 && place[WONTABELI_PLACE_PHASE] == WONTABELI_PHASE_GOING; calls++) {
+        int wait = wait_at(place);
+        uint8_t step = place[WONTABELI_PLACE_STEP];
+        if (wait == WAITS) {
+            memcpy(ticks, place + WONTABELI_PLACE_FIRST_TICK, sizeof ticks);
+            IS(wontabeli_step(place, sizeof place, WONTABELI_HSIRDY, odd *= 3), 0);
+            IS(memcmp(place + WONTABELI_PLACE_FIRST_TICK, ticks, sizeof ticks), 0);
+            continue;
+        }
+        IS(wontabeli_step(place, sizeof place, step == 27 ? WONTABELI_SWS * 2 : waits[wait].unmet, 1000), 0);
+        IS(wontabeli_step(place, sizeof place, step == 27 ? 0 : waits[wait].met, 1000u + step), 0);
+    }
+    /* 15 steps */
+    IS(calls, 15);
+    IS(place[WONTABELI_PLACE_PHASE], WONTABELI_PHASE_RUNNING);
+    ticks_are(__LINE__, place, eight, 27);
+}
+
+/* ---- Many calls on any bytes ---- */
+
+static uint64_t state = 1;
+
+/* Numbers that look random, the same at every run. */
+static uint32_t any(void)
+{
+    state = state * 6364136223846793005u + 1442695040888963407u;
+    return (uint32_t)(state >> 32);
+}
+
+static uint32_t below(uint32_t limit) { return any() % limit; }
+
+/* Two startups with the same readings and other ticks: the same numbers, and the same bytes 0 to 31. */
+static void other_ticks(void)
+{
+    uint8_t one[WONTABELI_PLACE_SIZE], other[WONTABELI_PLACE_SIZE];
+    int boot, calls;
+    for (boot = 0; boot < 50; boot++) {
+        IS(wontabeli_start(every_part, 10, image, 8, one, sizeof one), 0);
+        memcpy(other, one, sizeof other);
+        for (calls = 0; calls < 1000 && one[WONTABELI_PLACE_PHASE] == WONTABELI_PHASE_GOING; calls++) {
+            int wait = wait_at(one);
+            uint16_t reading = wait == WAITS ? 0 : below(4) == 0 ? waits[wait].met : waits[wait].unmet;
+            uint8_t number = wontabeli_step(one, sizeof one, reading, any());
+            IS(wontabeli_step(other, sizeof other, reading, (uint32_t)calls), number);
+            IS(memcmp(one, other, WONTABELI_PLACE_FIRST_TICK), 0);
+        }
+        IS(one[WONTABELI_PLACE_PHASE], WONTABELI_PHASE_RUNNING);
+    }
+}
+
+/* What K5 says of a place's ticks after a call, from its bytes before, its tick, and, both taken from the call itself, the number that came back and whether
+ * the reading met the wait. A wait without an unmet reading before has its first one now. Its difference is taken in 64 bits, so that nothing wraps here. */
+static void by_paper(const uint8_t *before_it, uint8_t *ticks, uint32_t tick, uint8_t number, int met)
+{
+    uint32_t first = number_at(before_it, 19) == 0 ? tick : number_at(before_it, 32), longest = 0;
+    int wait = wait_at(before_it), n;
+    memcpy(ticks, before_it + 32, 40);
+    if (before_it[27] != 0 || number != 0 || wait == WAITS) return;
+    if (!met) {
+        put_number(ticks, 0, first);
+        return;
+    }
+    put_number(ticks, 4 + 4 * wait, (uint32_t)((((uint64_t)1 << 32) + tick - first) % ((uint64_t)1 << 32)));
+    for (n = 0; n < WAITS; n++)
+        if (number_at(ticks, 4 + 4 * n) > longest) longest = number_at(ticks, 4 + 4 * n);
+    put_number(ticks, 36, longest);
+}
+
+/* Some place: a startup somewhere on its way with any ticks, or damaged, or no startup at all. */
+static void some_place(uint8_t *place)
+{
+    static const uint32_t counts[] = {0, 0, 0, 1, 2, 999998, 999999, 1000000, 8000000, 8000001, 8000002};
+    static const uint8_t phases[] = {0, 0, 0, 0, 0, 0, 0, 0, 1, 21, 22, 23, 2, 7};
+    int n;
+    for (n = 0; n < WONTABELI_PLACE_SIZE + 2; n++)
+        place[n] = (uint8_t)any();
+    if (below(8) == 0) return;
+    memcpy(place, below(2) ? every_part : a11, 10);
+    if (below(16) == 0) place[below(10)] ^= (uint8_t)(1 << below(8));
+    if (below(16) != 0) place[17] &= 0xe0;
+    place[18] = (uint8_t)(below(3) ? waits[below(WAITS)].step : below(30));
+    put_number(place, 19, counts[below(7 + below(2))]);
+    put_number(place, 23, counts[below(sizeof counts / sizeof *counts)]);
+    place[27] = phases[below(sizeof phases)];
+}
+
+/* Any places and calls: the ticks are K5's; a refused call leaves every byte, and so does one of a startup that is over; the bytes behind the place stay. */
+static void at_random(void)
+{
+    int rounds, used = 0, met_ones = 0, failed = 0, kept = 0, ended = 0;
+    for (rounds = 0; rounds < 100000; rounds++) {
+        uint8_t place[WONTABELI_PLACE_SIZE + 2], old[WONTABELI_PLACE_SIZE + 2], other[WONTABELI_PLACE_SIZE], ticks[40], number;
+        uint16_t reading = (uint16_t)(below(4) ? any() : below(2) ? WONTABELI_HSIRDY : 0);
+        uint32_t tick = below(4) ? any() : below(3) - 1u;
+        size_t lent = WONTABELI_PLACE_SIZE + below(3);
+        int n, met;
+        some_place(place);
+        if (below(3) == 0) tick = number_at(place, 32) + below(3) - 1u;
+        if (below(64) == 0) lent = below(WONTABELI_PLACE_SIZE);
+        memcpy(old, place, sizeof old);
+        number = wontabeli_step(place, lent, reading, tick);
+        if (lent < WONTABELI_PLACE_SIZE) IS(number, WONTABELI_OUTPUT_TOO_SHORT);
+        if (number != 21 && number != 22 && (number != 0 || old[27] != 0)) {
+            IS(memcmp(place, old, sizeof old), 0);
+            kept++;
+            continue;
+        }
+        if (old[27] != 0) {
+            IS(number, old[27]);
+            IS(memcmp(place, old, sizeof old), 0);
+            ended++;
+            continue;
+        }
+        met = place[WONTABELI_PLACE_REPORT] == WONTABELI_REPORT_WORKED;
+        by_paper(old, ticks, tick, number, met);
+        IS(memcmp(place + 32, ticks, sizeof ticks), 0);
+        IS(memcmp(place, old, 10), 0);
+        IS(place[27], number == 0 ? (place[28] == WONTABELI_REPORT_RUNNING) : number);
+        IS(place[72] == old[72] && place[73] == old[73], 1);
+        /* other ticks, in the place and handed in: the same number, and the same bytes 0 to 31 */
+        memcpy(other, old, sizeof other);
+        for (n = 32; n < WONTABELI_PLACE_SIZE; n++)
+            other[n] = (uint8_t)any();
+        IS(wontabeli_step(other, sizeof other, reading, any()), number);
+        IS(memcmp(other, place, 32), 0);
+        used += wait_at(old) < WAITS;
+        met_ones += wait_at(old) < WAITS && met;
+        failed += number != 0;
+    }
+    /* all kinds came up */
+    IS(used > 10000 && met_ones > 5000 && failed > 1000 && kept > 10000 && ended > 5000, 1);
 }
 
 static void v1(void)
@@ -568,7 +944,16 @@ int main(void)
     startups();
     readings();
     failing();
+    flash_mode();
+    running();
+    differing();
     wrong_together();
+    full_boot();
+    odd_ticks();
+    failed_wait();
+    uncounted();
+    other_ticks();
+    at_random();
     v1();
     v1_codes();
     v30x();

@@ -68,15 +68,16 @@ fn images() {
 
 fn startups() {
     let mut startup = Startup::start(&[0, 0, 0, 0, 0, 0x18, 0, 0, 0, 0x34], &[0; 8]).unwrap();
-    assert_eq!(startup.step(Reading::default()), Ok(Report::Worked { step: 1, used: 0 }));
+    assert_eq!(startup.step(Reading::default(), 0), Ok(Report::Worked { step: 1, used: 0 }));
     assert_eq!(startup.image(), [0x80, 0, 0, 0, 0, 0, 0, 0]);
     let other = Reading { hserdy: true, pllrdy: true, usbhs_pllrdy: true, eth_pllrdy: true, sws: 3, sckmod: 2, ..Reading::default() };
-    assert_eq!(startup.step(other), Ok(Report::Waiting { step: 2, used: 1 }));
+    assert_eq!(startup.step(other, 10), Ok(Report::Waiting { step: 2, used: 1 }));
     // HSION; HSERDY, PLLRDY, USBHS_PLLRDY, ETH_PLLRDY and SWS as they were read
     assert_eq!(startup.image(), [0x80, 0xfc, 0, 0, 0, 0, 0, 0]);
     let mut again = Startup::from_bytes(startup.bytes());
     let ready = Reading { hsirdy: true, ..Reading::default() };
-    assert_eq!(again.step(ready), Ok(Report::Worked { step: 2, used: 2 }));
+    assert_eq!(again.step(ready, 13), Ok(Report::Worked { step: 2, used: 2 }));
+    assert_eq!((again.ticks(2), again.longest_wait()), (3, 3));
     assert_eq!(FlashKey::at(1), Ok(FlashKey { register: KeyRegister::Keyr, key: 0xCDEF_89AB }));
     assert_eq!(FlashKey::at(2), Ok(FlashKey { register: KeyRegister::ModeKeyr, key: 0x4567_0123 }));
     assert_eq!(FlashKey::at(4), Err(Refusal::CodeNotAllowed));
@@ -88,7 +89,7 @@ fn ends() {
     let good = Reading { hsirdy: true, ..Reading::default() };
     let until_over = |startup: &mut Startup, reading| {
         for _ in 0..4_000_020 {
-            match startup.step(reading).unwrap() {
+            match startup.step(reading, 0).unwrap() {
                 Report::Worked { .. } | Report::Waiting { .. } => {}
                 report => return report,
             }
@@ -96,13 +97,36 @@ fn ends() {
         panic!("not over within the bound of the calls")
     };
     let mut startup = started();
-    assert_eq!(until_over(&mut startup, Reading::default()), Report::Failed { refusal: Refusal::WaitFailed, step: 2, used: 1_000_000 });
+    let failed = Report::Failed { refusal: Refusal::WaitFailed, step: 2, used: 1_000_000 };
+    assert_eq!(until_over(&mut startup, Reading::default()), failed);
+    stays_over(startup, failed);
     let other_mode = Reading { sckmod: 1, ..good };
-    assert_eq!(until_over(&mut started(), other_mode), Report::Failed { refusal: Refusal::FlashModeDiffers, step: 21, used: 4 });
-    let mut place = before_28(&[0, 0, 0, 0, 0, 0x18, 0, 0, 0, 0x34], 0, 0);
-    assert_eq!(Startup::from_bytes(place).step(good), Ok(Report::Running { step: 28, used: 5 }));
+    let mut startup = started();
+    let failed = Report::Failed { refusal: Refusal::FlashModeDiffers, step: 21, used: 4 };
+    assert_eq!(until_over(&mut startup, other_mode), failed);
+    stays_over(startup, failed);
+    let mut startup = Startup::from_bytes(before_28(&[0, 0, 0, 0, 0, 0x18, 0, 0, 0, 0x34], 0, 0));
+    let place = startup.bytes();
+    assert_eq!(startup.step(good, 0), Ok(Report::Running { step: 28, used: 5 }));
+    stays_over(startup, Report::Running { step: 28, used: 5 });
+    let mut place = place;
     place[PLACE_STEP] = 0;
-    assert_eq!(Startup::from_bytes(place).step(good), Err(Refusal::CodeNotAllowed));
+    let mut startup = Startup::from_bytes(place);
+    assert_eq!(startup.step(good, 0), Err(Refusal::CodeNotAllowed));
+    assert_eq!(startup.bytes(), place);
+}
+
+// Over: a call changes no byte and gives the last report again, also where the bytes that it doesn't look at are damaged.
+fn stays_over(startup: Startup, report: Report) {
+    let mut damaged = startup.bytes();
+    damaged[PLACE_REPORT..PLACE_FIRST_TICK].fill(0xee);
+    for place in [startup.bytes(), damaged] {
+        let mut startup = Startup::from_bytes(place);
+        for tick in [0, 5, u32::MAX] {
+            assert_eq!(startup.step(Reading { hsirdy: true, ..Reading::default() }, tick), Ok(report));
+            assert_eq!(startup.bytes(), place);
+        }
+    }
 }
 
 // A startup before step 28, of a configuration with at most the main PLL: each reading meets its wait.
@@ -114,7 +138,7 @@ fn before_28(profile: &[u8; PROFILE_SIZE], sys: u8, sckmod: u8) -> [u8; PLACE_SI
             break;
         }
         let sws = if step == 27 { sys } else { 0 };
-        startup.step(Reading { hsirdy: true, pllrdy: step == 18, sws, sckmod, ..Reading::default() }).unwrap();
+        startup.step(Reading { hsirdy: true, pllrdy: step == 18, sws, sckmod, ..Reading::default() }, 0).unwrap();
     }
     startup.bytes()
 }
@@ -128,27 +152,109 @@ fn differs() {
             fields[*field] = *code;
         }
         place[PLACE_IMAGE..PLACE_IMAGE + IMAGE_SIZE].copy_from_slice(&write_image(&fields).unwrap());
-        Startup::from_bytes(place).step(Reading::default())
+        let mut startup = Startup::from_bytes(place);
+        let report = startup.step(Reading::default(), 9);
+        // where the clocks differ, the startup stays as it was, and says so again
+        if report.is_err() {
+            assert_eq!(startup.bytes(), place);
+            assert_eq!(startup.step(Reading::default(), 10), report);
+        }
+        report
     };
-    let differ = |used| Ok(Report::Failed { refusal: Refusal::ClocksDiffer, step: 0, used });
+    let differ = Err(Refusal::ClocksDiffer);
     // Row A11: PCLK1, then PCLK2, 10 MHz, the timer 20 as before. HPRE 7 divides by 1 too. SWS 3 can't be decoded.
     let a11 = before_28(&[0, 0, 0, 0, 0, 0x18, 0, 0, 0, 0x34], 0, 0);
-    assert_eq!(changed(a11, &[(IMAGE_PPRE1, 4)]), differ(5));
-    assert_eq!(changed(a11, &[(IMAGE_PPRE2, 4)]), differ(5));
+    assert_eq!(changed(a11, &[(IMAGE_PPRE1, 4)]), differ);
+    assert_eq!(changed(a11, &[(IMAGE_PPRE2, 4)]), differ);
     assert_eq!(changed(a11, &[(IMAGE_HPRE, 7)]), Ok(Report::Running { step: 28, used: 5 }));
-    assert_eq!(changed(a11, &[(IMAGE_SWS, 3)]), differ(5));
+    assert_eq!(changed(a11, &[(IMAGE_SWS, 3)]), differ);
     // Row A5 with both buses by 4: SYSCLK 400 MHz by 2 again; then HCLK 100 MHz, and the buses by 2.
     let a5 = before_28(&[0, 0, 0, 0, 0x26, 0x98, 0x80, 0x5a, 0, 0x34], 2, 1);
     assert_eq!(changed(a5, &[]), Ok(Report::Running { step: 28, used: 6 }));
-    assert_eq!(changed(a5, &[(IMAGE_SYSPLLDIV, 0), (IMAGE_HPRE, 8)]), differ(6));
-    assert_eq!(changed(a5, &[(IMAGE_HPRE, 8), (IMAGE_PPRE1, 4), (IMAGE_PPRE2, 4)]), differ(6));
+    assert_eq!(changed(a5, &[(IMAGE_SYSPLLDIV, 0), (IMAGE_HPRE, 8)]), differ);
+    assert_eq!(changed(a5, &[(IMAGE_HPRE, 8), (IMAGE_PPRE1, 4), (IMAGE_PPRE2, 4)]), differ);
+    // Damaged bytes: no phase, a profile without a name, an image's filling. They stay.
+    let damaged = |at: usize, byte: u8, refusal| {
+        let mut place = a11;
+        place[at] = byte;
+        let mut startup = Startup::from_bytes(place);
+        assert_eq!(startup.step(Reading::default(), 9), Err(refusal));
+        assert_eq!(startup.bytes(), place);
+    };
+    damaged(PLACE_PHASE, 7, Refusal::CodeNotAllowed);
+    damaged(9, 0x35, Refusal::ProfileCode);
+    damaged(17, 1, Refusal::ImageLengthOrFilling);
+}
+
+// The profile with every part of docs/FORMATS.md. Each wait has so many unmet readings, and the counter goes 1,000 on with each call, 1,000 ticks for each
+// of them. It begins at 2^32 - 30,000. Step 10's first reading is call 25 (before it 1 + 5 + 1 + 6 + 1 + 1 + 7 + 1 + 1 for the steps 1 to 9), at 2^32 - 6,000,
+// and the met one is call 35, at 4,000: 10,000 ticks.
+fn waits() {
+    let every_part = [0xc0, 0x5f, 0x5e, 0x10, 0x2d, 0x98, 0xcc, 0x58, 0xc1, 0x34];
+    assert_eq!(waits_owed(&every_part), Ok(8));
+    let mut startup = Startup::start(&every_part, &[0; IMAGE_SIZE]).unwrap();
+    let mut tick = 0u32.wrapping_sub(30_000);
+    let mut unmet = [4, 5, 6, 10, 1, 2, 3, 7];
+    let mut report = Report::Worked { step: 0, used: 0 };
+    while let Report::Worked { .. } | Report::Waiting { .. } = report {
+        let step = startup.bytes()[PLACE_STEP];
+        let wait = WAITS.iter().position(|wait| *wait == step);
+        let meets = wait.map_or(true, |wait| unmet[wait] == 0);
+        if let Some(wait) = wait {
+            unmet[wait] -= i32::from(!meets);
+        }
+        let at = |wait| meets && step == wait;
+        let reading = Reading {
+            hsirdy: at(2),
+            hserdy: at(10) || step == 7 && !meets,
+            eth_pllrdy: at(12),
+            usbhs_pllrdy: at(15),
+            pllrdy: at(18),
+            sws: if at(27) { 2 } else { u8::from(step == 4 && !meets) },
+            sckmod: 0,
+        };
+        report = startup.step(reading, tick).unwrap();
+        tick = tick.wrapping_add(1_000);
+    }
+    // 38 unmet readings, the eight that meet a wait, and step 21's
+    assert_eq!(report, Report::Running { step: 28, used: 47 });
+    assert_eq!([2, 4, 7, 10, 12, 15, 18, 27].map(|step| startup.ticks(step)), [4_000, 5_000, 6_000, 10_000, 1_000, 2_000, 3_000, 7_000]);
+    assert_eq!(WAITS, [2, 4, 7, 10, 12, 15, 18, 27]);
+    assert_eq!(startup.longest_wait(), 10_000);
+    // steps without a wait
+    assert!((0..=u8::MAX).filter(|step| !WAITS.contains(step)).all(|step| startup.ticks(step) == 0));
+    assert_eq!(Startup::start(&every_part, &[0; IMAGE_SIZE]).unwrap().longest_wait(), 0);
+}
+
+// Step 2's readings at these ticks, the last of them met: how many ticks the wait took.
+fn odd_ticks() {
+    let lists: [(&[u32], u32); 6] = [
+        (&[0xffff_fff0, 0x10], 32),
+        (&[0x1234_5678], 0),
+        (&[1, 0], 0xffff_ffff),
+        (&[0xffff_ffff, 0], 1),
+        (&[1_000, 3_000_000_000, 500, 1_007], 7),
+        (&[5, 4_000_000_000, 3, 999, 105], 100),
+    ];
+    for (at, ticks) in lists {
+        let mut startup = Startup::start(&[0, 0, 0, 0, 0, 0x18, 0, 0, 0, 0x34], &[0; 8]).unwrap();
+        startup.step(Reading::default(), 77).unwrap();
+        for (n, tick) in at.iter().enumerate() {
+            assert_eq!((startup.ticks(2), startup.longest_wait()), (0, 0));
+            startup.step(Reading { hsirdy: n + 1 == at.len(), ..Reading::default() }, *tick).unwrap();
+        }
+        assert_eq!((startup.ticks(2), startup.longest_wait()), (ticks, ticks));
+    }
 }
 
 // A chip whose flash takes SCKMOD only while it is unlocked: by the keys in their order, until LOCK is written.
+// The main PLL is ready at the third reading since it is on. The counter is half of the readings, and begins at its end.
 struct Locked {
     fields: [u8; IMAGE_FIELDS],
     sckmod: u8,
     keys: u8,
+    readings: u32,
+    on: u32,
 }
 
 impl Chip for Locked {
@@ -169,17 +275,26 @@ impl Chip for Locked {
 
     fn read(&mut self) -> Reading {
         let f = self.fields;
-        Reading { hsirdy: f[IMAGE_HSION] == 1, pllrdy: f[IMAGE_PLLON] == 1, sws: f[IMAGE_SW], sckmod: self.sckmod, ..Reading::default() }
+        self.readings += 1;
+        self.on += u32::from(f[IMAGE_PLLON]);
+        Reading { hsirdy: f[IMAGE_HSION] == 1, pllrdy: self.on >= 3, sws: f[IMAGE_SW], sckmod: self.sckmod, ..Reading::default() }
+    }
+
+    fn tick(&mut self) -> u32 {
+        (self.readings / 2).wrapping_sub(6)
     }
 }
 
 // HSI x 20 by 2 (row A5): above 100 MHz, so SCKMOD is 1; one wait more, 18. The flash is locked before. The keys come after step 19's fields.
+// The steps 1 to 7, 16 and 17 take readings 1 to 9; step 18's first is 10, at 10 / 2 - 6, which is the counter's last tick, and the met one 12, at 0.
 fn runs() {
     let locked = [0, 0, 0, 0, 0, 0, 0, 0x60];
-    let mut chip = Locked { fields: read_image(&locked).unwrap(), sckmod: 0, keys: 0 };
+    let mut chip = Locked { fields: read_image(&locked).unwrap(), sckmod: 0, keys: 0, readings: 0, on: 0 };
     let mut startup = Startup::start(&[0, 0, 0, 0, 0x26, 0x98, 0x80, 0, 0, 0x34], &locked).unwrap();
-    assert_eq!(startup.run(&mut chip), Ok(Report::Running { step: 28, used: 6 }));
+    assert_eq!(startup.run(&mut chip), Ok(Report::Running { step: 28, used: 8 }));
     assert_eq!((chip.sckmod, chip.keys), (1, 0));
+    assert_eq!(WAITS.map(|step| startup.ticks(step)), [0, 0, 0, 0, 0, 0, 1, 0]);
+    assert_eq!(startup.longest_wait(), 1);
 }
 
 fn families() {
@@ -317,6 +432,8 @@ fn main() {
     startups();
     ends();
     differs();
+    waits();
+    odd_ticks();
     runs();
     families();
     serials();

@@ -476,15 +476,54 @@ static void places(void)
     int calls;
     IS(wontabeli_start(profile, sizeof profile, image, sizeof image, place, sizeof place), 0);
     place_says(__LINE__, place, WONTABELI_PHASE_GOING, WONTABELI_REPORT_WORKED, 0);
-    IS(wontabeli_step(place, sizeof place, 0), 0);
+    IS(place[WONTABELI_PLACE_NAMED], 0);
+    IS(wontabeli_step(place, sizeof place, 0, 0), 0);
     place_says(__LINE__, place, WONTABELI_PHASE_GOING, WONTABELI_REPORT_WORKED, 0);
-    IS(wontabeli_step(place, sizeof place, 0), 0);
+    IS(place[WONTABELI_PLACE_NAMED], 1);
+    IS(wontabeli_step(place, sizeof place, 0, 0), 0);
     place_says(__LINE__, place, WONTABELI_PHASE_GOING, WONTABELI_REPORT_WAITING, 0);
-    for (calls = 0; calls < 28; calls++) IS(wontabeli_step(place, sizeof place, WONTABELI_HSIRDY), 0);
+    for (calls = 0; calls < 28; calls++) IS(wontabeli_step(place, sizeof place, WONTABELI_HSIRDY, 0), 0);
     place_says(__LINE__, place, WONTABELI_PHASE_RUNNING, WONTABELI_REPORT_RUNNING, 0);
     IS(wontabeli_start(profile, sizeof profile, image, sizeof image, place, sizeof place), 0);
-    for (calls = 0; calls < 28; calls++) IS(wontabeli_step(place, sizeof place, WONTABELI_HSIRDY + WONTABELI_SCKMOD), 0);
+    /* steps 1 to 7, 19 and 20; then 21 */
+    for (calls = 0; calls < 9; calls++) IS(wontabeli_step(place, sizeof place, WONTABELI_HSIRDY + WONTABELI_SCKMOD, 0), 0);
+    IS(wontabeli_step(place, sizeof place, WONTABELI_HSIRDY + WONTABELI_SCKMOD, 0), WONTABELI_FLASH_MODE_DIFFERS);
     place_says(__LINE__, place, WONTABELI_FLASH_MODE_DIFFERS, WONTABELI_REPORT_FAILED, WONTABELI_FLASH_MODE_DIFFERS);
+    IS(place[WONTABELI_PLACE_NAMED], 21);
+}
+
+/* The places of the ticks. Waits 2 and 4 take 0x10203040 and 0x00000007; then the last of the eight, 27, takes 0x01020304. */
+static void tick_places(void)
+{
+    static const uint8_t profile[WONTABELI_PROFILE_SIZE] = {0, 0, 0, 0, 0, 0x18, 0, 0, 0, 0x34};
+    uint8_t place[WONTABELI_PLACE_SIZE], four[4];
+    int calls;
+    IS(WONTABELI_PLACE_TICKS, WONTABELI_PLACE_FIRST_TICK + 4);
+    IS(WONTABELI_PLACE_LONGEST, WONTABELI_PLACE_TICKS + 8 * 4);
+    IS(WONTABELI_PLACE_SIZE, WONTABELI_PLACE_LONGEST + 4);
+    IS(wontabeli_start(profile, sizeof profile, image, sizeof image, place, sizeof place), 0);
+    IS(wontabeli_step(place, sizeof place, 0, 0), 0);
+    IS(wontabeli_step(place, sizeof place, 0, 0x05060708), 0);
+    frequency(four, 0x05060708);
+    IS(memcmp(place + WONTABELI_PLACE_FIRST_TICK, four, 4), 0);
+    IS(wontabeli_step(place, sizeof place, WONTABELI_HSIRDY, 0x15263748), 0);
+    frequency(four, 0x10203040);
+    IS(memcmp(place + WONTABELI_PLACE_TICKS, four, 4), 0);
+    IS(memcmp(place + WONTABELI_PLACE_LONGEST, four, 4), 0);
+    IS(wontabeli_step(place, sizeof place, 0, 0), 0);
+    IS(wontabeli_step(place, sizeof place, WONTABELI_SWS, 1), 0);
+    IS(wontabeli_step(place, sizeof place, 0, 8), 0);
+    frequency(four, 7);
+    IS(memcmp(place + WONTABELI_PLACE_TICKS + 4, four, 4), 0);
+    /* steps 5, 6, 7, 19 to 23, and 26 */
+    for (calls = 0; calls < 9; calls++) IS(wontabeli_step(place, sizeof place, 0, 0), 0);
+    IS(place[WONTABELI_PLACE_STEP], 27);
+    IS(wontabeli_step(place, sizeof place, WONTABELI_SWS, 0), 0);
+    IS(wontabeli_step(place, sizeof place, 0, 0x01020304), 0);
+    frequency(four, 0x01020304);
+    IS(memcmp(place + WONTABELI_PLACE_TICKS + 7 * 4, four, 4), 0);
+    frequency(four, 0x10203040);
+    IS(memcmp(place + WONTABELI_PLACE_LONGEST, four, 4), 0);
 }
 
 /* A place of the default profile at step 2, with one byte changed: what the next call returns. Whatever is refused stays as it was. */
@@ -493,10 +532,10 @@ static uint8_t damaged(uint8_t at, uint8_t byte)
     static const uint8_t profile[WONTABELI_PROFILE_SIZE] = {0, 0, 0, 0, 0, 0x18, 0, 0, 0, 0x34};
     uint8_t place[WONTABELI_PLACE_SIZE], before[WONTABELI_PLACE_SIZE], number;
     IS(wontabeli_start(profile, sizeof profile, image, sizeof image, place, sizeof place), 0);
-    IS(wontabeli_step(place, sizeof place, 0), 0);
+    IS(wontabeli_step(place, sizeof place, 0, 0), 0);
     place[at] = byte;
     memcpy(before, place, sizeof place);
-    number = wontabeli_step(place, sizeof place, 0);
+    number = wontabeli_step(place, sizeof place, 0, 0);
     if (number != 0) IS(memcmp(place, before, sizeof place), 0);
     return number;
 }
@@ -521,7 +560,10 @@ static void damage(void)
     /* byte 27 */
     IS(damaged(WONTABELI_PLACE_PHASE, 2), WONTABELI_CODE_NOT_ALLOWED);
     IS(damaged(WONTABELI_PLACE_PHASE, WONTABELI_PHASE_RUNNING), 0);
-    /* another profile that the check accepts (APB1 by 2), another image, and what a call doesn't look at */
+    IS(damaged(WONTABELI_PLACE_PHASE, WONTABELI_WAIT_FAILED), WONTABELI_WAIT_FAILED);
+    IS(damaged(WONTABELI_PLACE_PHASE, WONTABELI_FLASH_MODE_DIFFERS), WONTABELI_FLASH_MODE_DIFFERS);
+    IS(damaged(WONTABELI_PLACE_PHASE, WONTABELI_CLOCKS_DIFFER), WONTABELI_CLOCKS_DIFFER);
+    /* another profile that the check accepts (APB1 by 2), another image, what the last call reported, and the ticks */
     IS(damaged(7, 0x40), 0);
     IS(damaged(WONTABELI_PLACE_IMAGE, 0), 0);
     for (at = WONTABELI_PLACE_REPORT; at < WONTABELI_PLACE_SIZE; at++) IS(damaged(at, 0xee), 0);
@@ -593,6 +635,7 @@ int main(void)
     v30x_records();
     v30x_fields();
     places();
+    tick_places();
     damage();
     free_bytes();
     sentences();

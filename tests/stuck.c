@@ -7,7 +7,7 @@ uint8_t wontabeli_start(const uint8_t *profile, size_t profile_len, const uint8_
     return 0;
 }
 
-uint8_t wontabeli_step(uint8_t *place, size_t place_len, uint16_t reading)
+uint8_t wontabeli_step(uint8_t *place, size_t place_len, uint16_t reading, uint32_t tick)
 {
     place[WONTABELI_PLACE_REPORT] = WONTABELI_REPORT_WAITING;
     return 0;

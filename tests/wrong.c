@@ -7,7 +7,7 @@
 #define V1 WONTABELI_V1_FIELDS_SIZE
 
 uint8_t __real_wontabeli_start(const uint8_t *profile, size_t profile_len, const uint8_t *image, size_t image_len, uint8_t *place, size_t place_len);
-uint8_t __real_wontabeli_step(uint8_t *place, size_t place_len, uint16_t reading);
+uint8_t __real_wontabeli_step(uint8_t *place, size_t place_len, uint16_t reading, uint32_t tick);
 uint8_t __real_wontabeli_v1_check(uint8_t part, const uint8_t *config, size_t config_len, uint32_t *out, size_t out_len);
 uint8_t __real_wontabeli_v1_decode(uint8_t part, const uint8_t *fields, size_t fields_len, uint32_t hse, uint32_t *out, size_t out_len);
 uint8_t __real_wontabeli_v1_init_fields(uint8_t part, const uint8_t *config, size_t config_len, const uint8_t *earlier, size_t earlier_len,
@@ -19,21 +19,124 @@ uint8_t __real_wontabeli_tray(const uint8_t *profiles, size_t profiles_len, uint
 
 static int mistake(int number)
 {
-    const char *text = getenv("MISTAKE");
-    return text && atoi(text) == number;
+    static int chosen = -1;
+    if (chosen < 0) {
+        const char *text = getenv("MISTAKE");
+        chosen = text ? atoi(text) : 0;
+    }
+    return chosen == number;
 }
 
 uint8_t __wrap_wontabeli_start(const uint8_t *profile, size_t profile_len, const uint8_t *image, size_t image_len, uint8_t *place, size_t place_len)
 {
+    uint8_t number, ticks[WONTABELI_PLACE_SIZE - WONTABELI_PLACE_FIRST_TICK];
     /* 1: the image before the profile */
     if (mistake(1) && place_len >= WONTABELI_PLACE_SIZE && (image_len != 8 || image[7] % 32 != 0))
         return WONTABELI_IMAGE_LENGTH_OR_FILLING;
-    return __real_wontabeli_start(profile, profile_len, image, image_len, place, place_len);
+    memcpy(ticks, place + WONTABELI_PLACE_FIRST_TICK, sizeof ticks);
+    number = __real_wontabeli_start(profile, profile_len, image, image_len, place, place_len);
+    /* 33: the ticks cleared by a refused start; 34: those of the startup before kept; 35: 32 bytes are enough for a place */
+    if (mistake(33) && number != 0)
+        memset(place + WONTABELI_PLACE_FIRST_TICK, 0, sizeof ticks);
+    if (mistake(34) && number == 0)
+        memcpy(place + WONTABELI_PLACE_FIRST_TICK, ticks, sizeof ticks);
+    if (mistake(35) && number == WONTABELI_OUTPUT_TOO_SHORT && place_len >= 32)
+        number = __real_wontabeli_start(profile, profile_len, image, image_len, place, WONTABELI_PLACE_SIZE);
+    return number;
 }
 
-uint8_t __wrap_wontabeli_step(uint8_t *place, size_t place_len, uint16_t reading)
+static uint32_t number_at(const uint8_t *place, int at)
 {
-    uint8_t number, phase = place[WONTABELI_PLACE_PHASE];
+    return (uint32_t)place[at] << 24 | (uint32_t)place[at + 1] << 16 | (uint32_t)place[at + 2] << 8 | place[at + 3];
+}
+
+static void put_number(uint8_t *place, int at, uint32_t number)
+{
+    int n;
+    for (n = 0; n < 4; n++)
+        place[at + n] = (uint8_t)(number >> (24 - 8 * n));
+}
+
+/* Where a place has the ticks of a step's wait; 0 where the step has none. */
+static int ticks_of(uint8_t step)
+{
+    static const uint8_t waits[8] = {2, 4, 7, 10, 12, 15, 18, 27};
+    int n;
+    for (n = 0; n < 8; n++)
+        if (waits[n] == step) return WONTABELI_PLACE_TICKS + 4 * n;
+    return 0;
+}
+
+/* The step's wait took so many ticks, and the longest goes by that. */
+static void took(uint8_t *place, uint8_t step, uint32_t ticks)
+{
+    uint32_t longest = 0;
+    int at;
+    put_number(place, ticks_of(step), ticks);
+    for (at = WONTABELI_PLACE_TICKS; at < WONTABELI_PLACE_LONGEST; at += 4)
+        if (number_at(place, at) > longest) longest = number_at(place, at);
+    put_number(place, WONTABELI_PLACE_LONGEST, longest);
+}
+
+/* A wait is met: mistakes in its ticks. */
+static void wrong_ticks(uint8_t *place, const uint8_t *before, uint32_t tick, uint32_t first_call)
+{
+    uint8_t step = before[WONTABELI_PLACE_STEP];
+    uint32_t first = number_at(before, WONTABELI_PLACE_UNMET) == 0 ? tick : number_at(before, WONTABELI_PLACE_FIRST_TICK);
+    /* 36: saturating instead of wrapping; 37: from the startup's first call on, and not from the wait's first reading; 38: from the first reading that the
+     * place has, also where that is another wait's; 39: one tick too many, the met reading counted too */
+    if (mistake(36)) took(place, step, tick < first ? 0 : tick - first);
+    if (mistake(37)) took(place, step, tick - first_call);
+    if (mistake(38)) took(place, step, tick - number_at(before, WONTABELI_PLACE_FIRST_TICK));
+    if (mistake(39)) took(place, step, tick - first + 1);
+    /* 40: the longest is that of the last wait; 41: the longest forgotten; 42: the shortest of those met; 43: the ticks added up */
+    if (mistake(40)) put_number(place, WONTABELI_PLACE_LONGEST, tick - first);
+    if (mistake(41)) put_number(place, WONTABELI_PLACE_LONGEST, 0);
+    if (mistake(42) && number_at(before, WONTABELI_PLACE_LONGEST) != 0 && tick - first < number_at(before, WONTABELI_PLACE_LONGEST))
+        put_number(place, WONTABELI_PLACE_LONGEST, tick - first);
+    if (mistake(43)) put_number(place, WONTABELI_PLACE_LONGEST, number_at(before, WONTABELI_PLACE_LONGEST) + tick - first);
+    /* 44: the ticks of 12 and 15 swapped; 45: the least significant byte first; 46: 16 bits of them */
+    if (mistake(44) && (step == 12 || step == 15)) {
+        put_number(place, ticks_of(step), number_at(before, ticks_of(step)));
+        took(place, step == 12 ? 15 : 12, tick - first);
+    }
+    if (mistake(45)) {
+        uint32_t x = tick - first;
+        put_number(place, ticks_of(step), x << 24 | (x & 0xff00) << 8 | (x >> 8 & 0xff00) | x >> 24);
+    }
+    if (mistake(46)) took(place, step, (tick - first) & 0xffff);
+}
+
+/* Mistakes in what a call leaves in the place, which was as `before`. */
+static uint8_t wrong_place(uint8_t *place, const uint8_t *before, uint8_t number, uint32_t tick)
+{
+    uint8_t step = before[WONTABELI_PLACE_STEP];
+    int going = before[WONTABELI_PLACE_PHASE] == WONTABELI_PHASE_GOING, waits = going && ticks_of(step) != 0;
+    int waiting = waits && number == 0 && place[WONTABELI_PLACE_REPORT] == WONTABELI_REPORT_WAITING;
+    /* 47: the ticks of a failed wait kept; 48: the first reading's tick moved on at each unmet reading; 49: a call that uses no reading sets it too;
+     * 50: step 21's does */
+    if (mistake(47) && going && number == WONTABELI_WAIT_FAILED) took(place, step, tick - number_at(before, WONTABELI_PLACE_FIRST_TICK));
+    if (mistake(48) && waiting) put_number(place, WONTABELI_PLACE_FIRST_TICK, tick);
+    if (mistake(49) && going && !waits && step != 21 && number == 0) put_number(place, WONTABELI_PLACE_FIRST_TICK, tick);
+    if (mistake(50) && going && step == 21 && number == 0) put_number(place, WONTABELI_PLACE_FIRST_TICK, tick);
+    /* 51: the place stored back after 28, its report with it; 52: after 23, which ends it; 53: as it was after 21; 54: as it was after 22 */
+    if (mistake(51) && number == WONTABELI_CODE_NOT_ALLOWED) place[WONTABELI_PLACE_REPORT] = WONTABELI_REPORT_FAILED;
+    if (mistake(52) && number == WONTABELI_CLOCKS_DIFFER) place[WONTABELI_PLACE_PHASE] = number;
+    if ((mistake(53) && number == WONTABELI_WAIT_FAILED) || (mistake(54) && number == WONTABELI_FLASH_MODE_DIFFERS))
+        memcpy(place, before, WONTABELI_PLACE_SIZE);
+    /* 55: a call after the end stores its report again; 56: a wait fails by its ticks; 57: 0 returned where a startup ends by 21 or 22; 58: 0 returned
+     * after the end */
+    if (mistake(55) && (number == 0 || number == 21 || number == 22) && !going) place[WONTABELI_PLACE_NUMBER] = number;
+    if (mistake(56) && waiting && tick - number_at(place, WONTABELI_PLACE_FIRST_TICK) >= 1000000)
+        return place[WONTABELI_PLACE_PHASE] = place[WONTABELI_PLACE_NUMBER] = WONTABELI_WAIT_FAILED;
+    if ((number == WONTABELI_WAIT_FAILED || number == WONTABELI_FLASH_MODE_DIFFERS) && (mistake(57) ? going : mistake(58) && !going)) return 0;
+    return number;
+}
+
+uint8_t __wrap_wontabeli_step(uint8_t *place, size_t place_len, uint16_t reading, uint32_t tick)
+{
+    static uint32_t first_call;
+    uint8_t number, phase = place[WONTABELI_PLACE_PHASE], before[WONTABELI_PLACE_SIZE];
     /* 2: the phase before profile and image */
     if (mistake(2) && place_len >= WONTABELI_PLACE_SIZE && phase == 7)
         return WONTABELI_CODE_NOT_ALLOWED;
@@ -43,13 +146,21 @@ uint8_t __wrap_wontabeli_step(uint8_t *place, size_t place_len, uint16_t reading
     if (mistake(4))
         reading = (uint16_t)((reading & ~(WONTABELI_USBHS_PLLRDY | WONTABELI_ETH_PLLRDY)) | (reading & WONTABELI_USBHS_PLLRDY ? WONTABELI_ETH_PLLRDY : 0) |
                              (reading & WONTABELI_ETH_PLLRDY ? WONTABELI_USBHS_PLLRDY : 0));
-    number = __real_wontabeli_step(place, place_len, reading);
+    memcpy(before, place, sizeof before);
+    if (before[WONTABELI_PLACE_STEP] == 1)
+        first_call = tick;
+    number = __real_wontabeli_step(place, place_len, reading, tick);
     /* 5: the unmet readings forgotten where a wait fails; 6: one of them where step 21 does */
     if (mistake(5) && phase == 0 && place[WONTABELI_PLACE_PHASE] == WONTABELI_WAIT_FAILED)
         memset(place + WONTABELI_PLACE_UNMET, 0, 4);
     if (mistake(6) && phase == 0 && place[WONTABELI_PLACE_PHASE] == WONTABELI_FLASH_MODE_DIFFERS)
         place[WONTABELI_PLACE_UNMET + 3] = 1;
-    return number;
+    /* 59: the byte behind the place cleared */
+    if (mistake(59) && number == 0 && place_len > WONTABELI_PLACE_SIZE)
+        place[WONTABELI_PLACE_SIZE] = 0;
+    if (number == 0 && phase == 0 && ticks_of(before[WONTABELI_PLACE_STEP]) != 0 && place[WONTABELI_PLACE_REPORT] == WONTABELI_REPORT_WORKED)
+        wrong_ticks(place, before, tick, first_call);
+    return wrong_place(place, before, number, tick);
 }
 
 /* HCLK and what lies below it, where the AHB divides by half. */

@@ -111,7 +111,7 @@ fn checked_tray(tray: &Tray) -> u32 {
 }
 
 fn start(profile: &[u8; 10]) {
-    let mut place = [0; 32];
+    let mut place = ours::NO_PLACE;
     keep((ours::start(profile, &mut place), place));
 }
 
@@ -122,7 +122,7 @@ fn decode(input: &Good) {
 
 fn step(place: &ours::Place, reading: u16) {
     let mut place = *place;
-    keep((ours::step(&mut place, reading), place));
+    keep((ours::step(&mut place, reading, opaque(12)), place));
 }
 
 fn serial(port: &Port) {
@@ -305,10 +305,15 @@ fn startups() -> Vec<Case> {
             theirs: None,
         },
         Case {
+            name: "startup, a call that meets a wait (step 2)",
+            ours: call("wontabeli_step", |i| each(&i.good, |g| step(&g.meeting, ours::HSI_READY))),
+            theirs: None,
+        },
+        Case {
             name: "startup, whole",
             ours: call("ours_startup", |i| {
                 each(&i.good, |g| {
-                    let mut place = [0; 32];
+                    let mut place = ours::NO_PLACE;
                     keep((ours::ours_startup(&g.profile, &mut place), place));
                 })
             }),

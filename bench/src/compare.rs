@@ -46,6 +46,15 @@ fn frequencies(g: &Good) -> Vec<u32> {
     clocks.into_iter().chain(g.adc).collect()
 }
 
+/// The Rust counts no ticks: ours are held to numbers worked by hand. A wait that its first reading meets has 0; step 2, read at 5 and met at 12, has 7.
+fn ticks(g: &Good, place: &ours::Place, wanted: &[u32]) -> bool {
+    let right = ours::ticks(place) == wanted;
+    if !right {
+        eprintln!("bench: the ticks of '{}' are {:?}, and not {:?}", g.name, ours::ticks(place), wanted);
+    }
+    right
+}
+
 fn good(g: &Good) -> bool {
     let mut out = ours::NONE;
     let number = ours::check(&g.profile, &mut out);
@@ -53,8 +62,10 @@ fn good(g: &Good) -> bool {
     let mut decoded = ours::NO_CLOCKS;
     let refused = ours::decode(&g.image, g.hse.unwrap_or(0), &mut decoded);
     theirs::theirs_read_and_decode(&g.image, g.hse);
-    let mut place = [0; 32];
+    let mut place = ours::NO_PLACE;
     let ended = ours::ours_startup(&g.profile, &mut place);
+    let mut met = g.meeting;
+    let number_met = ours::step(&mut met, ours::HSI_READY, 12);
     same(g.name, "the check", (number, ours::numbers(&out)), (0, checked))
         & same(
             g.name,
@@ -63,6 +74,8 @@ fn good(g: &Good) -> bool {
             (0, hal_v4x7::rcc::clocks().numbers().to_vec()),
         )
         & same(g.name, "the startup", (ended, ours::image(&place)), (1, g.image))
+        & ticks(g, &place, &[0; 9])
+        & (number_met == 0 && ticks(g, &met, &[7, 0, 0, 0, 0, 0, 0, 0, 7]))
         & codec(g)
 }
 

@@ -91,9 +91,10 @@ pub struct Good {
     /// The bytes and the fields with the filling behind them, as our calls take them.
     pub profile_fields: ours::ProfileFields,
     pub image_fields: ours::ImageFields,
-    /// Its startup before step 23, which writes, and before step 2, which waits for HSI.
+    /// Its startup before step 23, which writes; before step 2, which waits for HSI; and there again, after a reading that was unmet.
     pub writing: Place,
     pub waiting: Place,
+    pub meeting: Place,
 }
 
 pub struct Bad {
@@ -126,12 +127,20 @@ fn bytes_of(profile: &Profile) -> [u8; CONFIG] {
 
 /// The startup of a profile before a step.
 fn before(profile: &Profile, step: u8) -> Place {
-    let mut place = [0; 32];
+    let mut place = ours::NO_PLACE;
     let mut number = ours::start(profile, &mut place);
     while number == 0 && place[ours::STEP] != step {
         let reading = ours::reading(&place);
-        number = ours::step(&mut place, reading);
+        number = ours::step(&mut place, reading, 0);
     }
+    assert!(number == 0, "the startup is refused by {}", number);
+    place
+}
+
+/// A wait's place after its first reading, at tick 5, which is unmet.
+fn read_once(waiting: &Place) -> Place {
+    let mut place = *waiting;
+    let number = ours::step(&mut place, 0, 5);
     assert!(number == 0, "the startup is refused by {}", number);
     place
 }
@@ -158,6 +167,7 @@ fn good(name: &'static str, profile: Profile) -> Good {
     // The registers as the Rust leaves them: both decoders are handed what the Rust wrote.
     theirs::theirs_startup(&config);
     let fields = hal_v4x7::pac::fields();
+    let waiting = before(&profile, 2);
     Good {
         name,
         profile,
@@ -170,7 +180,8 @@ fn good(name: &'static str, profile: Profile) -> Good {
         profile_fields: filled(&bytes),
         image_fields: filled(&fields),
         writing: before(&profile, 23),
-        waiting: before(&profile, 2),
+        waiting,
+        meeting: read_once(&waiting),
     }
 }
 

@@ -16,7 +16,7 @@ extern "C" {
         place: *mut u8,
         place_len: usize,
     ) -> u8;
-    fn wontabeli_step(place: *mut u8, place_len: usize, reading: u16) -> u8;
+    fn wontabeli_step(place: *mut u8, place_len: usize, reading: u16, tick: u32) -> u8;
     fn wontabeli_serial_divisor(pclk: u32, rate: u32, brr: *mut u16, error: *mut i32) -> u8;
     /// `layout::bits`, which is no call of the header: bench/run makes it one.
     fn bench_bits(s: *const u8, s_len: usize, at: usize, count: usize) -> u64;
@@ -26,17 +26,22 @@ pub type Checked = [u32; 7];
 /// The record of a board: the refusal number or 0, and the frequencies, four bytes each.
 pub type Board = [u8; 32];
 pub type Decoded = [u32; 6];
-pub type Place = [u8; 32];
+pub type Place = [u8; 72];
 /// The fields one a byte, the filling last.
 pub type ProfileFields = [u8; 24];
 pub type ImageFields = [u8; 34];
 pub const NONE: Checked = [0; 7];
 pub const NO_CLOCKS: Decoded = [0; 6];
 
-/// Where a place has its image, its step and its phase.
+/// A place before anything is started in it; and where it has its image, its step, its phase and the ticks of the waits with the longest behind them.
+pub const NO_PLACE: Place = [0; 72];
 const IMAGE: usize = 10;
 pub const STEP: usize = 18;
 const PHASE: usize = 27;
+const TICKS: usize = 36;
+
+/// The reading of a chip whose HSI is ready, and nothing else.
+pub const HSI_READY: u16 = 1;
 
 /// The inner functions that cost is asked of, as the archives name them: the check, the decoder, the readers.
 pub const CHECK: &str = "v4x7::Config::clocks";
@@ -73,7 +78,12 @@ pub fn tray(profiles: &[[u8; 10]], out: &mut [Board]) -> u8 {
 
 /// The numbers of a board's record.
 pub fn board(record: &Board) -> Vec<u32> {
-    record
+    words(record)
+}
+
+/// Numbers of four bytes, the most significant first.
+fn words(bytes: &[u8]) -> Vec<u32> {
+    bytes
         .chunks(4)
         .map(|four| four.iter().fold(0, |number, byte| number << 8 | u32::from(*byte)))
         .collect()
@@ -120,8 +130,8 @@ pub fn start(profile: &[u8; 10], place: &mut Place) -> u8 {
 }
 
 #[inline]
-pub fn step(place: &mut Place, reading: u16) -> u8 {
-    unsafe { wontabeli_step(place.as_mut_ptr(), place.len(), reading) }
+pub fn step(place: &mut Place, reading: u16, tick: u32) -> u8 {
+    unsafe { wontabeli_step(place.as_mut_ptr(), place.len(), reading, tick) }
 }
 
 #[inline]
@@ -147,13 +157,20 @@ pub fn reading(place: &Place) -> u16 {
     ready | sws << 5 | sckmod << 7
 }
 
-/// A whole startup: 1 where it runs, else the refusal.
+/// The ticks of the eight waits, and the longest.
+pub fn ticks(place: &Place) -> Vec<u32> {
+    words(&place[TICKS..])
+}
+
+/// A whole startup: 1 where it runs, else the refusal. The tick is the number of the call.
 #[no_mangle]
 #[inline(never)]
 pub extern "C" fn ours_startup(profile: &[u8; 10], place: &mut Place) -> u8 {
     let mut number = start(profile, place);
+    let mut tick = 0;
     while number == 0 && place[PHASE] == 0 {
-        number = step(place, reading(place));
+        number = step(place, reading(place), tick);
+        tick += 1;
     }
     if number == 0 {
         place[PHASE]

@@ -101,8 +101,13 @@ const TRAYS: [(&str, &str); 2] = [
 ];
 /// What a board of a tray may take beside its read and check.
 const BESIDE: f64 = 100.0;
-/// What a call of the readers may take.
-const READERS: [(&str, f64); 2] = [("32 bits at any place (fast)", 64.0), ("profile read alone", 350.0)];
+/// What a call of the readers may take, and a call of a startup.
+const CALLS: [(&str, f64); 4] = [
+    ("32 bits at any place (fast)", 64.0),
+    ("profile read alone", 350.0),
+    ("startup, a call that writes (step 23)", 1500.0),
+    ("startup, a call that waits (step 2, not ready)", 1500.0),
+];
 
 /// Whether no line is above its limit: for each that has one a sentence, and a yes or no.
 fn budgets(lines: &[Line]) -> Vec<(String, bool)> {
@@ -121,8 +126,8 @@ fn budgets(lines: &[Line]) -> Vec<(String, bool)> {
         let reason = format!("{} x ({:.2} + {:.0}), which is {:.0}", BOARDS, one, BESIDE, most);
         budget(tray, most, reason)
     };
-    let reader = |(name, most): &(&str, f64)| budget(name, *most, format!("{:.0}", most));
-    TRAYS.iter().map(tray).chain(READERS.iter().map(reader)).collect()
+    let one_call = |(name, most): &(&str, f64)| budget(name, *most, format!("{:.0}", most));
+    TRAYS.iter().map(tray).chain(CALLS.iter().map(one_call)).collect()
 }
 
 /// The sentences, below the table.

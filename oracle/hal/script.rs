@@ -36,6 +36,8 @@ pub struct Chip {
     /// Calls are counted as document 01 counts them: one step's work or one reading each. `init` is stopped at the limit.
     limit: u32,
     pub calls: u32,
+    /// The step that each call worked.
+    pub steps: Vec<u8>,
     pub used: u32,
     /// The step worked last, how many readings in a row it used, and the step whose call the limit kept from being made.
     pub step: u8,
@@ -90,6 +92,7 @@ impl Chip {
             taken: 0,
             limit: 0,
             calls: 0,
+            steps: Vec::new(),
             used: 0,
             step: 0,
             readings: 0,
@@ -118,6 +121,7 @@ impl Chip {
             std::panic::resume_unwind(Box::new(Stopped));
         }
         self.calls += 1;
+        self.steps.push(step);
         self.readings = if step == self.step { self.readings + 1 } else { 1 };
         self.step = step;
     }

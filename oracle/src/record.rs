@@ -19,6 +19,8 @@ pub const TRAY_IN: usize = 120;
 pub const TRAY_OUT: usize = 448;
 /// Segments of a startup's script.
 pub const SEGMENTS: usize = 13;
+/// Those of a startup's with ticks.
+pub const TICKED_SEGMENTS: usize = 11;
 
 pub const CHECK: u8 = 0x01;
 pub const DECODE: u8 = 0x02;
@@ -53,9 +55,10 @@ pub const SERIAL: u8 = 0x40;
 pub const PORT: u8 = 0x41;
 pub const BOARD: u8 = 0x42;
 pub const TRAY: u8 = 0x43;
+pub const TICKED: u8 = 0x44;
 
 /// Each kind, its name, and the refusals that document 01, or 02, gives it.
-pub const KINDS: [(u8, &str, &[u8]); 33] = [
+pub const KINDS: [(u8, &str, &[u8]); 34] = [
     (
         CHECK,
         "V4x7 check",
@@ -98,6 +101,11 @@ pub const KINDS: [(u8, &str, &[u8]); 33] = [
     // a board's refusals stand in its record
     (BOARD, "a board", &[]),
     (TRAY, "a tray of boards", &[29, 32]),
+    (
+        TICKED,
+        "V4x7 startup, ticks",
+        &[1, 2, 3, 4, 5, 6, 7, 8, 9, 10, 11, 12, 13, 14, 15, 16, 21, 22, 23, 28],
+    ),
 ];
 
 pub fn name_of(kind: u8) -> &'static str {

@@ -1,6 +1,7 @@
 //! What a run asked: by kind, how many were accepted and how many of each refusal.
 
 use crate::answer::By;
+use crate::paper::call::WAITS;
 use crate::paper::manual;
 use crate::record::*;
 
@@ -12,6 +13,8 @@ pub struct Summary {
     by_paper: u64,
     /// AHB codes 12 to 15 of each of `LEFT_OUT`.
     left_out: [LeftOut; 3],
+    /// Answers that show ticks of each wait, and those of which the longest is each wait's.
+    ticked: [[u64; WAITS.len()]; 2],
 }
 
 /// The families for which the Rust is not asked AHB codes 12 to 15, and their kinds of query.
@@ -53,6 +56,9 @@ impl Summary {
         if let Some(kind) = KINDS.iter().position(|row| row.0 == expected[0]) {
             self.counts[kind][expected[1] as usize] += 1;
         }
+        if expected[0] == TICKED {
+            self.add_ticks(expected);
+        }
         match by {
             By::Rust => self.by_rust += 1,
             By::Paper => self.by_paper += 1,
@@ -69,6 +75,15 @@ impl Summary {
         }
     }
 
+    fn add_ticks(&mut self, expected: &Answer) {
+        let longest = number(&expected[40..]);
+        for place in 0..WAITS.len() {
+            let ticks = number(&expected[8 + 4 * place..]);
+            self.ticked[0][place] += u64::from(ticks > 0);
+            self.ticked[1][place] += u64::from(ticks > 0 && ticks == longest);
+        }
+    }
+
     pub fn print(&self) {
         for ((_, name, refusals), counts) in KINDS.iter().zip(&self.counts) {
             println!("{}", counted(name, counts, refusals));
@@ -76,12 +91,24 @@ impl Summary {
         for ((family, _), left_out) in LEFT_OUT.iter().zip(&self.left_out) {
             println!("{}", left_out.line(family));
         }
+        println!("ticks above 0 of waits {}", by_wait(&self.ticked[0]));
+        println!("the longest at waits   {}", by_wait(&self.ticked[1]));
         let by_manual: u64 = self.left_out.iter().map(|family| family.queries).sum();
         println!(
             "expected answers: {} from the Rust, {} from documents 01 and 02, {} from the Rust with AHB code 0 and the manuals' table",
             self.by_rust, self.by_paper, by_manual
         );
     }
+}
+
+/// How many of each wait, by its step.
+fn by_wait(counts: &[u64; WAITS.len()]) -> String {
+    let count = |(step, times): (&u8, &u64)| match times {
+        0 => format!("{} NEVER", step),
+        _ => format!("{} x{}", step, times),
+    };
+    let all: Vec<String> = WAITS.iter().zip(counts).map(count).collect();
+    all.join(", ")
 }
 
 /// A line of a summary: answers by refusal number, and which of the refusals never came.

@@ -13,7 +13,7 @@ extern "C" {
     pub fn wontabeli_write_image(fields: *const u8, fields_len: usize, out: *mut u8, out_len: usize) -> u8;
 
     pub fn wontabeli_start(profile: *const u8, profile_len: usize, image: *const u8, image_len: usize, place: *mut u8, place_len: usize) -> u8;
-    pub fn wontabeli_step(place: *mut u8, place_len: usize, reading: u16) -> u8;
+    pub fn wontabeli_step(place: *mut u8, place_len: usize, reading: u16, tick: u32) -> u8;
     pub fn wontabeli_flash_key(position: u8, out: *mut u32, out_len: usize) -> u8;
     pub fn wontabeli_waits_owed(profile: *const u8, profile_len: usize, out: *mut u32) -> u8;
     pub fn wontabeli_call_bound(profile: *const u8, profile_len: usize, out: *mut u32) -> u8;

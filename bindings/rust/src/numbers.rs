@@ -36,7 +36,7 @@ pub const IMAGE_FIELDS: usize = 34;
 
 // The numbers of crates/capi_startup.
 /// A place's bytes. Its first ten are the profile.
-pub const PLACE_SIZE: usize = 32;
+pub const PLACE_SIZE: usize = 72;
 /// The image, eight bytes: after a call the host writes its fields to the chip, but for the ready bits and SWS.
 pub const PLACE_IMAGE: usize = 10;
 /// The step whose turn it is.
@@ -45,14 +45,20 @@ pub const PLACE_STEP: usize = 18;
 pub const PLACE_UNMET: usize = 19;
 /// All readings used, four bytes.
 pub const PLACE_USED: usize = 23;
-/// Whether the startup is over: PHASE_GOING, PHASE_RUNNING, or the refusal that ended it (21, 22 or 23).
+/// Whether the startup is over: PHASE_GOING, PHASE_RUNNING, or the refusal that ended it (21 or 22).
 pub const PLACE_PHASE: usize = 27;
-/// What the last call reports: a REPORT_ number.
+/// What the last call that changed the place reports: a REPORT_ number.
 pub const PLACE_REPORT: usize = 28;
-/// The last call's refusal: 0, 21, 22 or 23.
+/// That call's refusal: 0, 21 or 22.
 pub const PLACE_NUMBER: usize = 29;
-/// The step that the last call names; 0 before the first call and with 23.
+/// The step that it names; 0 before the first call.
 pub const PLACE_NAMED: usize = 30;
+/// The tick of the first reading of the wait whose turn it is, four bytes; it counts where PLACE_UNMET is not 0.
+pub const PLACE_FIRST_TICK: usize = 32;
+/// The ticks of the eight waits (steps 2, 4, 7, 10, 12, 15, 18 and 27), four bytes each.
+pub const PLACE_TICKS: usize = 36;
+/// The longest of them, four bytes.
+pub const PLACE_LONGEST: usize = 68;
 /// In byte PLACE_PHASE: not over, call again.
 pub const PHASE_GOING: u8 = 0;
 /// In byte PLACE_PHASE: over, and the clocks run as the check promised.

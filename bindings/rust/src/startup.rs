@@ -43,7 +43,7 @@ pub enum Report {
     Waiting { step: u8, used: u32 },
     /// Over: the clocks run as the check promised.
     Running { step: u8, used: u32 },
-    /// Over, by this refusal (`WaitFailed`, `FlashModeDiffers` or `ClocksDiffer`) at this step; `step` is 0 with `ClocksDiffer`.
+    /// Over, by `WaitFailed` or `FlashModeDiffers` at this step.
     Failed { refusal: Refusal, step: u8, used: u32 },
 }
 
@@ -75,7 +75,8 @@ impl FlashKey {
     }
 }
 
-/// The chip, as `Startup::run` needs it: `read` before each call, `write` after it, and after step 19's `write` four times `write_key`.
+/// The chip, as `Startup::run` needs it: `read` and `tick` before each call, `write` after it unless it failed, and after step 19's `write` four times
+/// `write_key`.
 pub trait Chip {
     /// Writes the image's fields to the registers, but never the ready bits and SWS, which only the chip writes; SCKMOD, LOCK and FLOCK in one write.
     /// What a register holds already may be left out. That is the register, and not the last image: the keys open LOCK and FLOCK, and step 20 sets them.
@@ -84,7 +85,13 @@ pub trait Chip {
     fn write_key(&mut self, key: FlashKey);
     /// Reads the ready bits, SWS and SCKMOD as they are now.
     fn read(&mut self) -> Reading;
+    /// What a free-running counter of 32 bits shows, asked for right after `read`. It has no default, so that no host forgets it; without a counter, 0:
+    /// all ticks are then 0.
+    fn tick(&mut self) -> u32;
 }
+
+/// The steps that wait, in the order of their ticks in a startup's bytes.
+pub const WAITS: [u8; 8] = [2, 4, 7, 10, 12, 15, 18, 27];
 
 /// A startup, in the bytes that the library works on.
 #[derive(Clone, Debug, PartialEq, Eq)]
@@ -103,7 +110,8 @@ impl Startup {
         Ok(Startup { place })
     }
 
-    /// A startup as it was stored. `step` refuses some bytes that no starting leads to (docs/REFUSALS.md, 28); other damage is worked as it stands.
+    /// A startup as it was stored. `step` refuses some bytes that no starting leads to (docs/REFUSALS.md, 28, 30 and 31); other damage is worked as it
+    /// stands.
     pub fn from_bytes(place: [u8; PLACE_SIZE]) -> Startup {
         Startup { place }
     }
@@ -120,30 +128,44 @@ impl Startup {
         image
     }
 
-    fn used(&self) -> u32 {
-        let at = PLACE_USED;
+    // The number that four of its bytes spell.
+    fn number_at(&self, at: usize) -> u32 {
         u32::from_be_bytes([self.place[at], self.place[at + 1], self.place[at + 2], self.place[at + 3]])
     }
 
-    /// One call: one step's work done or one reading used. A startup that ends by a refusal is `Ok(Report::Failed { .. })`; `Err` says that the bytes
-    /// are refused, which then stay.
-    pub fn step(&mut self, reading: Reading) -> Result<Report, Refusal> {
-        result(unsafe { wontabeli_step(self.place.as_mut_ptr(), self.place.len(), reading.number()) })?;
-        let (step, used) = (self.place[PLACE_NAMED], self.used());
-        Ok(match self.place[PLACE_REPORT] {
-            REPORT_WORKED => Report::Worked { step, used },
-            REPORT_WAITING => Report::Waiting { step, used },
-            REPORT_RUNNING => Report::Running { step, used },
-            _ => {
-                let refusal = Refusal::from_number(self.place[PLACE_NUMBER]).unwrap_or(Refusal::CodeNotAllowed);
-                Report::Failed { refusal, step, used }
-            }
-        })
+    /// The ticks of a step's wait, from its first reading to the met one, modulo 2^32: so a wait longer than a full turn of the counter shows the
+    /// remainder only. 0 before the wait is met, for good where it is skipped or fails, where its first reading met it, and for a step that is none of
+    /// `WAITS`.
+    pub fn ticks(&self, step: u8) -> u32 {
+        WAITS.iter().position(|wait| *wait == step).map_or(0, |wait| self.number_at(PLACE_TICKS + 4 * wait))
     }
 
-    /// Calls until the startup is over, and gives its last report. In each turn it reads, calls, writes the image, and at step 19 then the keys: fields
-    /// written after the keys would lock the flash again. It makes no more calls than `call_bound` says, which is proved to be enough; so a report
-    /// `Worked` or `Waiting` can come back only where what is linked is not the proved archive.
+    /// The most ticks that a wait took; 0 before any is met.
+    pub fn longest_wait(&self) -> u32 {
+        self.number_at(PLACE_LONGEST)
+    }
+
+    /// One call: one step's work done or one reading used. The tick is what a free-running counter showed at the reading. A startup that ends by 21 or 22
+    /// is `Ok(Report::Failed { .. })`, and a call after the end gives the last report again. `Err` says that the call is refused: by the bytes, or by 23,
+    /// where the clocks differ. The bytes then stay.
+    pub fn step(&mut self, reading: Reading, tick: u32) -> Result<Report, Refusal> {
+        let number = unsafe { wontabeli_step(self.place.as_mut_ptr(), self.place.len(), reading.number(), tick) };
+        let (named, used) = (self.place[PLACE_NAMED], self.number_at(PLACE_USED));
+        // An ended startup stands at the step of its end.
+        let last = self.place[PLACE_STEP];
+        match result(number) {
+            Ok(()) if self.place[PLACE_PHASE] == PHASE_RUNNING => Ok(Report::Running { step: last, used }),
+            Ok(()) if self.place[PLACE_REPORT] == REPORT_WAITING => Ok(Report::Waiting { step: named, used }),
+            Ok(()) => Ok(Report::Worked { step: named, used }),
+            Err(refusal @ (Refusal::WaitFailed | Refusal::FlashModeDiffers)) => Ok(Report::Failed { refusal, step: last, used }),
+            Err(refusal) => Err(refusal),
+        }
+    }
+
+    /// Calls until the startup is over, and gives its last report; `ticks` and `longest_wait` then say how long it waited. In each turn it reads, calls,
+    /// writes the image, and at step 19 then the keys: fields written after the keys would lock the flash again. It makes no more calls than
+    /// `call_bound` says, which is proved to be enough; so a report `Worked` or `Waiting` can come back only where what is linked is not the proved
+    /// archive. A startup that runs already is written to the chip once more.
     pub fn run(&mut self, chip: &mut impl Chip) -> Result<Report, Refusal> {
         let mut report = self.turn(chip)?;
         for _ in 1..call_bound(&self.place[..PROFILE_SIZE])? {
@@ -155,9 +177,13 @@ impl Startup {
         Ok(report)
     }
 
-    // A reading, a call, and what the host then writes.
+    // A reading with its tick, a call, and what the host then writes.
     fn turn(&mut self, chip: &mut impl Chip) -> Result<Report, Refusal> {
-        let report = self.step(chip.read())?;
+        let reading = chip.read();
+        let report = self.step(reading, chip.tick())?;
+        if let Report::Failed { .. } = report {
+            return Ok(report);
+        }
         chip.write(self.image());
         if let Report::Worked { step: 19, .. } = report {
             for position in 0..4 {

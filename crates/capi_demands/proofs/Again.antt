@@ -1,27 +1,31 @@
--- A stored place reads back as the same startup. Assumes nothing.
-use Prim.Native.Nat.{ℕ, _+_, _*_, _<_}
+-- A place's bytes read back as the startup with its ticks that was stored.
+-- Assumes nothing.
+use Prim.Native.Nat.{ℕ, _+_}
 use mathlib.Core.Path.{_≡_, refl, sym, ap, _∙_}
 use mathlib.Core.Logic.{inl, inr}
-use mathlib.Core.List.{List, [], _∷_, _++_, append-assoc}
-use native.Mathlib.Omega.{arith}
-use lib.Dec.{lit<}
-use lib.ListN.{length, take, drop}
-use lib.Seq.{take-at, drop-at}
-use Rattle.answer.specs.Answer.{gives, bound}
-use Rattle.layout.specs.Bits.{bitsAt}
-use Rattle.profile.specs.Profile.{readProfile, profileBytes}
-use Rattle.profile.proofs.RoundTrip as profile
+use mathlib.Core.Bool.{not}
+use mathlib.Core.List.{List, _++_, append-assoc}
+use borrow.Author.Tests.{eqb-true}
+use lib.Dec.{eqb}
+use lib.ListN.{length, take, drop, getD}
+use lib.Seq.{take-at, drop-at, drop-drop, getD-drop}
+use Rattle.answer.specs.Answer.{gives, refuse, _>>_}
+use Rattle.layout.specs.Bits.{cut}
+use Rattle.layout.proofs.RoundTrip as layout
+use Rattle.v4x7.specs.declared.Config.{Config}
+use Rattle.profile.specs.Profile.{widths, allowed, configOf, readProfile}
 use Rattle.image.specs.Image.{readImage, imageBytes}
 use Rattle.image.proofs.RoundTrip as image
+use Rattle.startup.specs.declared.Report.{Report}
 use Rattle.startup.specs.declared.Report.the-variants.{Worked, Waiting, Running, Failed, Refused}
 use Rattle.startup.specs.declared.Phase.{Phase}
 use Rattle.startup.specs.declared.Phase.the-variants.{Going, Over}
 use Rattle.startup.specs.declared.Startup.{Startup}
-use Rattle.startup.specs.declared.Stepped.{Stepped}
-use Rattle.startup.specs.Call.{numberOf, namedStep}
-use Rattle.capi_startup.specs.Kept.{phaseOf, tagOf, reportTag, standingOf, keptOf, tailOf, placeOf}
-use Rattle.capi_demands.specs.Place.{HeldPhase, Storable, ReadsBack}
-use Rattle.capi_demands.proofs.Bits.{bits-back, byte-read, word, word-read}
+use Rattle.ticks.specs.declared.Ticks.{Ticks}
+use Rattle.ticks.specs.declared.Ticked.{Ticked}
+use Rattle.capi_startup.specs.Kept.{phaseOf, tagOf, numberAt, standingOf, startupIn, ticksIn, ticksPart, keptOf, countsBytes, ticksBytes}
+use Rattle.capi_demands.specs.Place.{HeldPhase, Word, Storable, ReadsBack}
+use Rattle.capi_demands.proofs.Numbers.{word-back, ticks-back}
 
 -- a phase by its number
 phase-again : (h : Phase) (step used : ℕ) → HeldPhase h step used → phaseOf (tagOf h) step used ≡ h
@@ -34,97 +38,93 @@ phase-again (Over (Failed n s u)) step used (inl a, e, f) = rw (a, e, f)
 phase-again (Over (Failed n s u)) step used (inr a, e, f) = rw (a, e, f)
 phase-again (Over (Refused n)) step used e = rw e
 
-tag-byte : (h : Phase) (step used : ℕ) → HeldPhase h step used → tagOf h < 256
-tag-byte Going step used r = lit< tt
-tag-byte (Over (Worked s u)) step used r = absurd r
-tag-byte (Over (Waiting s u)) step used r = absurd r
-tag-byte (Over (Running s u)) step used r = lit< tt
-tag-byte (Over (Failed n s u)) step used (inl a, e, f) = omega arith
-tag-byte (Over (Failed n s u)) step used (inr a, e, f) = omega arith
-tag-byte (Over (Refused n)) step used e = omega arith
+pub read-length : (p : List ℕ) (c : Config) → readProfile p ≡ gives c → length p ≡ 10
+unfolding readProfile
+read-length p c e =
+    eqb-true (length p) 10
+    (layout.passed 29 (eqb (length p) 10) (_>>_ (refuse 30 (not (allowed (cut widths p 0)))) (gives (configOf (cut widths p 0)))) c e .0)
 
-module _ (x : Stepped) (p i rest : List ℕ) (a : length p ≡ 10) (b : length i ≡ 8) (s : Storable (x .startup)) where
-  abbrev u : List ℕ
-  u = tailOf x ++ rest
+-- The parts of a place: a profile p, an image i, the counts of s with its last report, and k for the ticks.
+module _ (p i k rest : List ℕ) (s : Startup) (report : Report) (ten : length p ≡ 10) (eight : length i ≡ 8) where
+  abbrev tail : List ℕ
+  tail = countsBytes s report ++ (k ++ rest)
 
   abbrev l : List ℕ
-  l = p ++ (i ++ u)
+  l = (p ++ (i ++ (countsBytes s report ++ k))) ++ rest
 
-  -- behind profile and image
-  behind : (at n : ℕ) → bitsAt l (144 + at) n ≡ bitsAt u at n
-  behind at n =
-      let e : 144 + at ≡ 8 * length p + (8 * length i + at) = omega arith in
-      ap (λ (k : ℕ). bitsAt l k n) e ∙ bits-back p (i ++ u) (8 * length i + at) n ∙ bits-back i u at n
+  -- one behind the other
+  in-row : l ≡ p ++ (i ++ tail)
+  in-row =
+      append-assoc p (i ++ (countsBytes s report ++ k)) rest
+      ∙ ap (λ (z : List ℕ). p ++ z)
+      (append-assoc i (countsBytes s report ++ k) rest ∙ ap (λ (z : List ℕ). i ++ z) (append-assoc (countsBytes s report) k rest))
 
-  abbrev st : Startup
-  st = x .startup
+  pub profile-part : take 10 l ≡ p
+  profile-part = ap (take 10) in-row ∙ take-at p (i ++ tail) 10 ten
 
-  abbrev ends : List ℕ
-  ends = reportTag (x .report) ∷ numberOf (x .report) ∷ namedStep (x .report) ∷ 0 ∷ rest
+  behind-profile : drop 10 l ≡ i ++ tail
+  behind-profile = ap (drop 10) in-row ∙ drop-at p (i ++ tail) 10 ten
 
-  step-again : bitsAt l 144 8 ≡ st .step
-  unfolding tailOf
-  step-again = behind 0 8 ∙ byte-read (st .step) (word (st .unmet) ++ (word (st .used) ++ (tagOf (st .phase) ∷ ends))) (s .step)
+  image-part : take 8 (drop 10 l) ≡ i
+  image-part = ap (take 8) behind-profile ∙ take-at i tail 8 eight
 
-  unmet-again : bitsAt l 152 32 ≡ st .unmet
-  unfolding tailOf
-  unmet-again =
-      let more = word (st .used) ++ (tagOf (st .phase) ∷ ends) in
-      behind 8 32 ∙ bits-back (st .step ∷ []) (word (st .unmet) ++ more) 0 32 ∙ word-read (st .unmet) more (s .unmet)
+  behind-image : drop 18 l ≡ tail
+  behind-image = sym (drop-drop 8 10 l) ∙ ap (drop 8) behind-profile ∙ drop-at i tail 8 eight
 
-  used-again : bitsAt l 184 32 ≡ st .used
-  unfolding tailOf
-  used-again =
-      let more = tagOf (st .phase) ∷ ends in
-      behind 40 32 ∙ bits-back (st .step ∷ word (st .unmet)) (word (st .used) ++ more) 0 32 ∙ word-read (st .used) more (s .used)
+  pub byte-behind : (n : ℕ) → getD l (18 + n) 0 ≡ getD tail n 0
+  byte-behind n = sym (getD-drop 18 l n 0) ∙ ap (λ (z : List ℕ). getD z n 0) behind-image
 
-  tag-again : bitsAt l 216 8 ≡ tagOf (st .phase)
-  unfolding tailOf
-  tag-again =
-      behind 72 8 ∙ bits-back (st .step ∷ (word (st .unmet) ++ word (st .used))) (tagOf (st .phase) ∷ ends) 0 8
-      ∙ byte-read (tagOf (st .phase)) ends (tag-byte (st .phase) (st .step) (st .used) (s .phase))
+  behind-counts : drop 32 l ≡ k ++ rest
+  unfolding countsBytes
+  behind-counts = sym (drop-drop 14 18 l) ∙ ap (drop 14) behind-image
 
-  standing-again : standingOf (st .config) (st .fields) l ≡ st
+  pub ticks-part : length k ≡ 40 → ticksPart l ≡ k
+  ticks-part h = ap (take 40) behind-counts ∙ take-at k rest 40 h
+
+  pub rest-part : length k ≡ 40 → drop 72 l ≡ rest
+  rest-part h = sym (drop-drop 40 32 l) ∙ ap (drop 40) behind-counts ∙ drop-at k rest 40 h
+
+  unmet-again : Word (s .unmet) → numberAt l 19 ≡ s .unmet
+  unfolding countsBytes
+  unmet-again h = rw (byte-behind 1, byte-behind 2, byte-behind 3, byte-behind 4) (word-back (s .unmet) h)
+
+  used-again : Word (s .used) → numberAt l 23 ≡ s .used
+  unfolding countsBytes
+  used-again h = rw (byte-behind 5, byte-behind 6, byte-behind 7, byte-behind 8) (word-back (s .used) h)
+
+  step-again : getD l 18 0 ≡ s .step
+  unfolding countsBytes
+  step-again = byte-behind 0
+
+  tag-again : getD l 27 0 ≡ tagOf (s .phase)
+  unfolding countsBytes
+  tag-again = byte-behind 9
+
+  standing-again : Word (s .unmet) → Word (s .used) → HeldPhase (s .phase) (s .step) (s .used) → standingOf (s .config) (s .fields) l ≡ s
   unfolding standingOf
-  standing-again = rw (step-again, unmet-again, used-again, tag-again, phase-again (st .phase) (st .step) (st .used) (s .phase))
+  standing-again a b h = rw (step-again, unmet-again a, used-again b, tag-again, phase-again (s .phase) (s .step) (s .used) h)
 
-  pub kept-of : readProfile p ≡ gives (st .config) → readImage i ≡ gives (st .fields) → keptOf ((p ++ (i ++ tailOf x)) ++ rest) ≡ gives st
-  unfolding keptOf
-  kept-of c f =
-      let e : (p ++ (i ++ tailOf x)) ++ rest ≡ l =
-      append-assoc p (i ++ tailOf x) rest ∙ ap (λ (t : List ℕ). p ++ t) (append-assoc i (tailOf x) rest) in
-      let d : take 8 (drop 10 l) ≡ i = ap (take 8) (drop-at p (i ++ u) 10 a) ∙ take-at i u 8 b in
-      ap keptOf e ∙ rw (take-at p (i ++ u) 10 a, d, c, f) (ap gives standing-again)
+  startup-again : readProfile p ≡ gives (s .config) → readImage i ≡ gives (s .fields) →
+      Word (s .unmet) → Word (s .used) → HeldPhase (s .phase) (s .step) (s .used) → startupIn l ≡ gives s
+  unfolding startupIn
+  startup-again c f a b h = rw (profile-part, image-part, c, f) (ap gives (standing-again a b h))
 
--- a place is a profile, an image and the tail
-pub record Parts (y : Stepped) (b : List ℕ) : Type 0 where
-  pub profile-part : List ℕ
-  pub image-part : List ℕ
-  pub ten : length profile-part ≡ 10
-  pub eight : length image-part ≡ 8
-  pub config : readProfile profile-part ≡ gives (y .startup .config)
-  pub fields : readImage image-part ≡ gives (y .startup .fields)
-  pub whole : profile-part ++ (image-part ++ tailOf y) ≡ b
+-- Whatever bytes stand for the ticks, these read back too.
+pub kept-of : (p i k rest : List ℕ) (t : Ticked) (report : Report) → length p ≡ 10 → readProfile p ≡ gives (t .startup .config) →
+    imageBytes (t .startup .fields) ≡ gives i → length k ≡ 40 → ticksIn k ≡ t .ticks → Storable t →
+    keptOf ((p ++ (i ++ (countsBytes (t .startup) report ++ k))) ++ rest) ≡ gives t
+kept-of p i k rest t report ten c f forty same st =
+    let s = t .startup in
+    let eight = image.inverse .size (s .fields) i f in
+    let g = image.inverse .read-write (s .fields) i f in
+    rw (startup-again p i k rest s report ten eight c g (st .unmet) (st .used) (st .phase), ticks-part p i k rest s report ten eight forty, same)
 
-pub parts : (y : Stepped) (b : List ℕ) → placeOf y ≡ gives b → Parts y b
-unfolding placeOf
-parts y b e =
-    let st = y .startup in
-    let u = bound (profileBytes (st .config)) _ e in
-    let v = bound (imageBytes (st .fields)) _ (u .after) in
-    let g : gives (u .value ++ (v .value ++ tailOf y)) ≡ gives b = v .after in
-    record {
-      profile-part = u .value;
-      image-part = v .value;
-      ten = profile.inverse .size (st .config) (u .value) (u .gave);
-      eight = image.inverse .size (st .fields) (v .value) (v .gave);
-      config = profile.inverse .read-write (st .config) (u .value) (u .gave);
-      fields = image.inverse .read-write (st .fields) (v .value) (v .gave);
-      whole = cc;
-    }
+pub ticks-length : (t : Ticks) → length (ticksBytes t) ≡ 40
+unfolding ticksBytes
+ticks-length t = refl
 
 pub kept-again : ReadsBack
-kept-again x l rest s e =
-    let o = parts x l e in
-    ap (λ (t : List ℕ). keptOf (t ++ rest)) (sym (o .whole))
-    ∙ kept-of x (o .profile-part) (o .image-part) rest (o .ten) (o .eight) s (o .config) (o .fields)
+kept-again p t report rest l c st s =
+    ap keptOf (s .lent) ∙
+    kept-of p (s .image) (ticksBytes (t .ticks)) rest t report (read-length p (t .startup .config) c) c (s .imaged) (ticks-length (t .ticks))
+    (ticks-back (t .ticks) (st .first, st .waits)) st

@@ -9,7 +9,7 @@ use lib.Dec.{leb, ltb}
 use lib.IntN.{ℤ}
 use lib.ListN.{length, take, drop}
 use Rattle.answer.specs.Answer.{Answer, gives, refuses, refuse, _>>_}
-use Rattle.answer.specs.Order.{Test, firstOf, bare, InOrder, order-gives, order-then, order-bind, order-behind, order-past, else-order}
+use Rattle.answer.specs.Order.{Test, firstOf, bare, InOrder, order-gives, order-then, order-behind, else-order}
 use Rattle.answer.specs.Lists.{order-map}
 use Rattle.divider.specs.declared.Family.the-variants.{H4}
 use Rattle.divider.specs.Frequency.{whole}
@@ -35,21 +35,16 @@ use Rattle.demands.proofs.First.{demand1}
 use Rattle.capi.specs.Calls as capi
 use Rattle.capi.specs.Owed.{keyRead, waitsRead, callsRead}
 use Rattle.capi_codec.specs.Codec.{fieldsBy, refusedBy, profileFields, profileFrom, imageFields, imageFrom}
-use Rattle.startup.specs.declared.Stepped.{Stepped}
-use Rattle.capi_startup.specs.Kept.{placeOf}
-use Rattle.capi_startup.specs.Calls.{begunWith, startRead, startBytes, callOf, stepBytes}
+use Rattle.capi_startup.specs.Calls.{startRead, startBytes}
 use Rattle.capi_startup.specs.Order as orderStartup
 use Rattle.capi_v1.specs.Order as order1
 use Rattle.capi_v30x.specs.Order as order30
 use Rattle.capi_h4.specs.Order.{clocks-call-in-order, pclk-call-in-order}
 use Rattle.capi_serial.specs.Calls.{GivenSerial}
-use Rattle.capi_demands.specs.First.{Through, ThroughOne, ThroughTwo, refusing, placeTests, SerialGoes, TrayGoes, Demand1InC}
+use Rattle.capi_demands.specs.First.{Through, ThroughOne, ThroughTwo, refusing, SerialGoes, TrayGoes, Demand1InC}
+use Rattle.capi_demands.proofs.Called.{number-bare, through-place}
 
 -- ---- from an answer to the number returned
-
-number-bare : {A : Type 0} (m : Answer A) → numberIn m ≡ numberIn (bare m)
-number-bare (gives x) = refl
-number-bare (refuses n) = refl
 
 returned : {n : ℕ} {m : Answer (List ℕ)} (tests : List ℕ → List Test) → ((l : List ℕ) → bare (written n m l) ≡ firstOf (tests l)) →
     (l l′ : List ℕ) (r : ℕ) → Given n m l l′ r → r ≡ numberIn (firstOf (tests l))
@@ -93,14 +88,6 @@ made k false m b = record { goes = refl }
 made k true (gives a) b = record { goes = refl }
 made k true (refuses n) b = record { goes = refl }
 
--- ---- a place
-
-placed : (x : Stepped) → InOrder (placeTests x) (placeOf x)
-unfolding placeOf profile.profileBytes image.imageBytes
-placed x =
-    order-bind (profile.profileBytes (x .startup .config)) (order-past 30 (not (profile.writable (x .startup .config))) (λ e. order-gives)) (λ p e.
-    order-bind (image.imageBytes (x .startup .fields)) (order-past 28 (not (image.inWidth (x .startup .fields))) (λ e. order-gives)) (λ i e. order-gives))
-
 -- ---- the keys
 
 keys : (position : ℕ) → InOrder ((28, leb 4 position) ∷ []) (keyRead position)
@@ -121,7 +108,7 @@ tray-goes s = returned (trayTests s) (tray-in-order s)
 
 pub demand1-in-c : Demand1InC
 unfolding capi.decodeRead capi.adcRead capi.rngRead profileFields profileFrom imageFields imageFrom waitsRead callsRead
-    startBytes stepBytes
+    startBytes
 demand1-in-c = record {
   check = λ p. through (order-map _ (capi.sevenOf (profile.checkProfile p)) (order-map _ (profile.checkProfile p) (checks p)));
   decode = λ i hz.
@@ -138,11 +125,10 @@ demand1-in-c = record {
   read-image = λ i. through (taken-apart image.readImage image.widths i (images i));
   write-image = λ xs. through (made 28 (fitting image.widths xs) (image.readImage (packed 8 image.widths xs)) (packed 8 image.widths xs));
   start = λ p i.
-      through (order-behind (startRead p i)
-      (orderStartup.start-in-order _ _ _ p i (λ c. record { goes = check-in-order c }) (profiles p) (images i)) (λ s. placed (begunWith s)));
-  step = λ place w.
-      through (order-behind (callOf place w)
-      (orderStartup.step-in-order _ _ place w (profiles (take 10 place)) (images (take 8 (drop 10 place)))) placed);
+      through (order-map _ (startRead p i)
+      (orderStartup.start-in-order _ _ _ p i (λ c. record { goes = check-in-order c }) (profiles p) (images i)));
+  step = λ l w tick l′ r.
+      through-place l w tick l′ r _ (orderStartup.startup-in-order _ _ l (profiles (take 10 l)) (images (take 8 (drop 10 l))));
   key = λ position. through (order-map _ (keyRead position) (keys position));
   waits = λ p. through-one (order-behind (profile.readProfile p) (profiles p) owed-goes);
   calls = λ p. through-one (order-behind (profile.readProfile p) (profiles p) calls-goes);

@@ -1,195 +1,182 @@
--- Demand 3 of the calls for C, shown. Assumes nothing.
-use Prim.Native.Nat.{ℕ, zero, suc, _+_, _≤_, _<_}
+-- Demand 3 of the calls for C, shown: calls on lent bytes go as calls on a startup in its place, and such hosts there are.
+-- Assumes nothing.
+use Prim.Native.Nat.{ℕ, zero, suc, _≤_}
 use mathlib.Core.Path.{_≡_, refl, sym, ap, _∙_, subst}
+use mathlib.Core.Logic.{inl}
 use mathlib.Core.Bool.{true, false}
-use mathlib.Core.List.{List, _++_}
-use native.Mathlib.Omega.{arith}
+use mathlib.Core.List.{List, [], _∷_, _++_}
 use borrow.Author.Tests.{le-ltb}
-use lib.Dec.{eqb, lit<}
-use lib.ListN.{length, drop, getD, length-append, List·getD-append}
-use lib.Seq.{drop-at, getD-append-add}
+use lib.ListN.{length, drop}
 use Rattle.answer.specs.Answer.{Answer, gives}
-use Rattle.layout.specs.Layout.{packed}
+use Rattle.layout.specs.Layout.{Bytes}
 use Rattle.layout.specs.Lent.{written, after}
 use Rattle.v4x7.specs.declared.Config.{Config}
 use Rattle.v4x7.specs.declared.ClockRecord.{ClockRecord}
 use Rattle.v4x7.specs.Check.{checkOf}
-use Rattle.profile.specs.Profile.{readProfile, profileBytes}
-use Rattle.profile.proofs.RoundTrip as profile
+use Rattle.profile.specs.Profile.{readProfile}
 use Rattle.image.specs.declared.Fields.{Fields}
-use Rattle.image.specs.Image.{widths, listOf, inWidth, readImage, imageBytes}
+use Rattle.image.specs.Image.{inWidth, readImage}
+use Rattle.image.specs.Width.{wide, in-width}
 use Rattle.image.proofs.RoundTrip as image
-use Rattle.startup.specs.Steps.{Entry, steps}
 use Rattle.startup.specs.declared.Reading.{Reading}
-use Rattle.startup.specs.declared.Startup.{Startup}
+use Rattle.startup.specs.declared.Report.{Report}
+use Rattle.startup.specs.declared.Report.the-variants.{Worked}
 use Rattle.startup.specs.declared.Stepped.{Stepped}
 use Rattle.startup.specs.Call.{numberOf, stepOf, waitsOwedOf, callBoundOf}
-use Rattle.demands.specs.Runs.{run}
+use Rattle.ticks.specs.declared.Ticked.{Ticked}
+use Rattle.ticks.specs.Ticks.{begunWith, tickedOf}
+use Rattle.ticks.specs.Runs.{Handed, runs, plain}
+use Rattle.place.specs.Place.{leavesAsItWas, steppedIn}
+use Rattle.place.specs.Laws.{inPlace, NoneLeaves}
 use Rattle.demands.specs.Third.{begun}
 use Rattle.demands.specs.Third as third
+use Rattle.demands.specs.Placed.{Calls, firstCalls}
 use Rattle.demands.proofs.Accepted.{accepted-tells}
-use Rattle.demands.proofs.Machine.{machine}
-use Rattle.image.specs.Width.{wide, in-width}
-use Rattle.demands.proofs.Third.{bounds, Sound, same-step, stays-sound, starts, demand3}
+use Rattle.demands.proofs.Third.{Sound, same-step, stays-sound, starts}
+use Rattle.demands.proofs.Placed.{none-leaves, demand3-in-place}
 use Rattle.capi_give.specs.Given.{numberIn, Given}
-use Rattle.capi_startup.specs.Kept.{keptOf, tailOf, placeOf}
-use Rattle.capi_startup.specs.Calls.{readingOf, startRead, begunWith, startBytes, callOf, stepBytes}
+use Rattle.capi_startup.specs.Kept.{keptOf, countsBytes, ticksBytes}
+use Rattle.capi_startup.specs.Calls.{readingOf, startRead, startBytes, stepBytes, leavesOf, numberLeft, bytesLeft, Leaves}
 use Rattle.capi.specs.Owed.{callsRead}
-use Rattle.capi_demands.specs.Place.{Storable}
-use Rattle.capi_demands.specs.Hosted.{Hosts, Shows, Tells, readings, Served, Demand3InC, HostsThere}
-use Rattle.capi_demands.proofs.Again.{parts, kept-again}
+use Rattle.capi_demands.specs.Place.{Word, Storable, Shows}
+use Rattle.capi_demands.specs.Hosted.{Hosts, handed, told, Served, Demand3InC, HostsThere}
+use Rattle.capi_demands.proofs.Again.{read-length}
 use Rattle.capi_demands.proofs.Stays.{starts-storable, stays-storable}
-use Rattle.capi_demands.proofs.Going.{Inside, Good, good, first-at}
+use Rattle.capi_demands.proofs.Answers.{place-by}
+use Rattle.capi_demands.proofs.Shown.{Agrees, tells, kept, agrees-then, one-call}
+use Rattle.capi_demands.proofs.Ended.{Ends, ends-then, three-numbers, over-by-it, its-number}
 
--- a record given through enough lent bytes
-given-all : (b l l′ : List ℕ) (k : ℕ) (m : Answer (List ℕ)) → 32 ≤ length l → m ≡ gives b → Given 32 m l l′ k → (k ≡ 0) × (l′ ≡ b ++ drop 32 l)
-given-all b l l′ k m h e g = ((rw (le-ltb (length l) 32 h, e) at (g .number)), (rw (le-ltb (length l) 32 h, e) at (g .lent)))
+given-all : (b l l′ : List ℕ) (k : ℕ) (m : Answer (List ℕ)) → 72 ≤ length l → m ≡ gives b → Given 72 m l l′ k → (k ≡ 0) × (l′ ≡ b ++ drop 72 l)
+given-all b l l′ k m h e g = ((rw (le-ltb (length l) 72 h, e) at (g .number)), (rw (le-ltb (length l) 72 h, e) at (g .lent)))
 
-image-given : (f : Fields) → inWidth f ≡ true → imageBytes f ≡ gives (packed 8 widths (listOf f))
-unfolding imageBytes
-image-given f h = rw h
+module _ (c : Config) {x : ClockRecord} (q : checkOf c ≡ gives x) (p : List ℕ) (reads : readProfile p ≡ gives c) (rest : List ℕ) where
+  ten : length p ≡ 10
+  ten = read-length p c reads
 
-size : (y : Stepped) (b : List ℕ) → placeOf y ≡ gives b → length b ≡ 32
-unfolding tailOf
-size y b e =
-    let s = parts y b e in
-    let p = s .profile-part in
-    let i = s .image-part in
-    let j = s .ten in
-    let k = s .eight in
-    let n : length (tailOf y) ≡ 14 = refl in
-    ap length (sym (s .whole)) ∙ length-append p (i ++ tailOf y) ∙ ap (λ (z : ℕ). length p + z) (length-append i (tailOf y)) ∙ omega arith
+  -- What holds of a place from call to call, with the last report.
+  record Held (t : Ticked) (report : Report) (l : List ℕ) : Type 0 where
+    sound : Sound c q (t .startup)
+    stored : Storable t
+    goes : (cs : List Handed) → NoneLeaves (runs plain (t .startup) cs .1)
+    last : Agrees (t .startup .phase) report
+    ends : Ends (t .startup .phase) report
+    shows : Shows p t report rest l
 
--- a byte of the tail, in the lent bytes
-tail-byte : (y : Stepped) (rest l : List ℕ) → Shows y rest l → (k : ℕ) → 18 + k < 32 → getD l (18 + k) 0 ≡ getD (tailOf y) k 0
-tail-byte y rest l s k h =
-    let b = s .place in
-    let o = parts y b (s .stored) in
-    let p = o .profile-part in
-    let i = o .image-part in
-    let within : 18 + k < length b = rw (size y b (s .stored)) h in
-    let at : 18 + k ≡ length p + (length i + k) = omega (arith, o .ten, o .eight) in
-    ap (λ (z : List ℕ). getD z (18 + k) 0) (s .lent) ∙ List·getD-append b rest 0 (18 + k) within
-    ∙ ap (λ (z : List ℕ). getD z (18 + k) 0) (sym (o .whole))
-    ∙ ap (λ (n : ℕ). getD (p ++ (i ++ tailOf y)) n 0) at
-    ∙ getD-append-add p (i ++ tailOf y) (length i + k) 0 ∙ getD-append-add i (tailOf y) k 0
+  profile-of : (t : Ticked) → Sound c q (t .startup) → readProfile p ≡ gives (t .startup .config)
+  profile-of t so = reads ∙ ap gives (sym (so .0))
 
-tells : (y : Stepped) (rest l : List ℕ) → Shows y rest l → Tells y l
-unfolding tailOf
-tells y rest l s =
-    let byte = tail-byte y rest l s in
-    record { phase = byte 9 (lit< tt); report = byte 10 (lit< tt); number = byte 11 (lit< tt); step = byte 12 (lit< tt) }
+  sound-step : (t : Ticked) (r : Reading) → Sound c q (t .startup) → Sound c q (stepOf (t .startup) r .startup)
+  sound-step t r so =
+      subst (λ (y : Stepped). Sound c q (y .startup)) (sym (same-step c q (t .startup) r so)) (stays-sound c q (t .startup) r so)
 
-module _ (c : Config) {x : ClockRecord} (q : checkOf c ≡ gives x) (p : List ℕ) (packs : profileBytes c ≡ gives p) where
-  abbrev P : List Entry
-  P = steps c (x .clocks)
-
-  abbrev Held : Startup → Type 0
-  Held s = Sound c q s × Inside P 1000000 s × Storable s
-
-  million : 0 < 1000000
-  million = lit< tt
-
-  -- a call by value
-  held-step : (s : Startup) (r : Reading) → Held s → Held (stepOf s r .startup) × (eqb (numberOf (stepOf s r .report)) 28 ≡ false)
-  held-step s r (so, i, st) =
-      let e : machine P 1000000 s r ≡ stepOf s r = sym (same-step c q s r so) in
-      let g : Good P 1000000 (stepOf s r) = subst (Good P 1000000) e (good P 1000000 million s r i) in
-      ((subst (λ (t : Stepped). Sound c q (t .startup)) e (stays-sound c q s r so), g .0, stays-storable s r st), g .1)
-
-  stored-as : (y : Stepped) → Held (y .startup) → (b : List ℕ) × (placeOf y ≡ gives b)
-  unfolding placeOf
-  stored-as y h =
-      let st = y .startup in
-      let a : profileBytes (st .config) ≡ gives p = ap profileBytes (h .0 .0) ∙ packs in
-      let b : imageBytes (st .fields) ≡ gives (packed 8 widths (listOf (st .fields))) = image-given (st .fields) (in-width (st .fields) (h .0 .1)) in
-      (p ++ (packed 8 widths (listOf (st .fields)) ++ tailOf y), rw (a, b))
-
-  -- a call on a place
-  step-bytes : (s : Startup) (l : List ℕ) (w : ℕ) → keptOf l ≡ gives s → eqb (numberOf (stepOf s (readingOf w) .report)) 28 ≡ false →
-      stepBytes l w ≡ placeOf (stepOf s (readingOf w))
-  unfolding stepBytes callOf
-  step-bytes s l w e n = rw (e, n)
-
-  module _ (rest : List ℕ) where
-    kept-shown : (y : Stepped) (l : List ℕ) → Held (y .startup) → Shows y rest l → keptOf l ≡ gives (y .startup)
-    kept-shown y l h s = ap keptOf (s .lent) ∙ kept-again y (s .place) rest (h .2) (s .stored)
-
-    one-call : (y : Stepped) (l l′ : List ℕ) (w k : ℕ) → Held (y .startup) → Shows y rest l → Given 32 (stepBytes l w) l l′ k →
-        (k ≡ 0) × Shows (stepOf (y .startup) (readingOf w)) rest l′
-    one-call y l l′ w k h s g =
-        let z = stepOf (y .startup) (readingOf w) in
-        let n = held-step (y .startup) (readingOf w) h in
-        let b = stored-as z (n .0) in
-        let e : stepBytes l w ≡ gives (b .0) = step-bytes (y .startup) l w (kept-shown y l h s) (n .1) ∙ b .1 in
-        let i : length (s .place) ≡ 32 = size y (s .place) (s .stored) in
-        let j : length l ≡ 32 + length rest = ap length (s .lent) ∙ length-append (s .place) rest ∙ ap (λ (t : ℕ). t + length rest) i in
-        let v = given-all (b .0) l l′ k (stepBytes l w) (omega arith) e g in
-        let d : drop 32 l ≡ rest = ap (drop 32) (s .lent) ∙ drop-at (s .place) rest 32 i in
-        (v .0, record { place = b .0; stored = b .1; lent = v .1 ∙ ap (λ (t : List ℕ). b .0 ++ t) d })
-
-    abbrev Calls : (ℕ → ℕ) → (ℕ → ℕ) → (ℕ → List ℕ) → Type 0
-    Calls ws rs m = (n : ℕ) → Given 32 (stepBytes (m n) (ws n)) (m n) (m (suc n)) (rs n)
-
-    each-call : (n : ℕ) (ws rs : ℕ → ℕ) (m : ℕ → List ℕ) (y : Stepped) → Held (y .startup) → Shows y rest (m 0) → Calls ws rs m →
-        (rs n ≡ 0) × Shows (stepOf (run stepOf n (readings ws) (y .startup)) (readings ws n)) rest (m (suc n)) ×
-        (keptOf (m n) ≡ gives (run stepOf n (readings ws) (y .startup)))
-    each-call zero ws rs m y h s g =
-        let one = one-call y (m 0) (m 1) (ws 0) (rs 0) h s (g 0) in
-        (one .0, one .1, kept-shown y (m 0) h s)
-    each-call (suc n) ws rs m y h s g =
-        each-call n (λ k. ws (suc k)) (λ k. rs (suc k)) (λ k. m (suc k)) (stepOf (y .startup) (readingOf (ws 0)))
-        (held-step (y .startup) (readingOf (ws 0)) h .0) (one-call y (m 0) (m 1) (ws 0) (rs 0) h s (g 0) .1) (λ k. g (suc k))
-
-  begun-held : (f : Fields) → inWidth f ≡ true → Held (begun c f)
-  begun-held f w =
-      ((refl, wide f w), first-at P 1000000 million refl (bounds c (x .clocks) .1), starts-storable c f (begun c f) (starts c q f w))
-
-  module _ (i : List ℕ) (f : Fields) (w : inWidth f ≡ true) (e : readProfile p ≡ gives c) (o : readImage i ≡ gives f) (l : List ℕ)
-      (h : 32 ≤ length l) where
-    start-bytes : startBytes p i ≡ placeOf (begunWith (begun c f))
-    unfolding startBytes startRead
-    start-bytes = rw (e, o, starts c q f w)
-
-    call-bound : callsRead p ≡ gives (third.bound c)
-    unfolding callsRead callBoundOf waitsOwedOf
-    call-bound = rw (e, accepted-tells c q .names)
-
-    pub served : (ws : ℕ → ℕ) (r : ℕ) (rs : ℕ → ℕ) (m : ℕ → List ℕ) → Hosts p i l ws r rs m → Served p c (x .clocks) f l ws r rs m
-    served ws r rs m g =
-        let y = begunWith (begun c f) in
-        let rest = drop 32 l in
-        let held = begun-held f w in
-        let b = stored-as y held in
-        let v = given-all (b .0) l (m 0) r (startBytes p i) h (start-bytes ∙ b .1) (g .start) in
-        let s : Shows y rest (m 0) = record { place = b .0; stored = b .1; lent = v .1 } in
+  call : (t : Ticked) (report : Report) (l l′ : List ℕ) (w tick n : ℕ) → Word tick → Held t report l → Leaves 72 (stepBytes l w tick) l l′ n →
+      let y = steppedIn t (readingOf w) tick in (n ≡ numberOf (y .report)) × Held (y .place) (y .report) l′
+  unfolding tickedOf
+  call t report l l′ w tick n small h g =
+      let r = readingOf w in
+      let so = sound-step t r (h .sound) in
+      let goes : leavesAsItWas (stepOf (t .startup) r .report) ≡ false = h .goes ((r, tick) ∷ []) .0 in
+      let fits = in-width (stepOf (t .startup) r .startup .fields) (so .1) in
+      let reads = profile-of t (h .sound) in
+      let place = sym (place-by t r tick false goes) in
+      let does = one-call p t report rest l ten (h .shows) (h .stored) reads (h .last) w tick l′ n g goes fits in (
+        does .0,
         record {
-          started = v .0;
-          called = λ n. each-call rest n ws rs m y held s (g .step) .0;
-          begins = s;
-          steps = λ n. each-call rest n ws rs m y held s (g .step) .1;
-          tells = λ n. tells _ rest (m (suc n)) (each-call rest n ws rs m y held s (g .step) .1);
-          keeps = λ n. each-call rest n ws rs m y held s (g .step) .2;
-          asked = call-bound;
-          shown = demand3 c x q f w (readings ws) .1;
-        }
+          sound = subst (λ (t : Ticked). Sound c q (t .startup)) place so;
+          stored = stays-storable t r tick small (h .stored);
+          goes = subst (λ (t : Ticked). (cs : List Handed) → NoneLeaves (runs plain (t .startup) cs .1)) place (λ cs. h .goes ((r, tick) ∷ cs) .1);
+          last = agrees-then t r tick goes;
+          ends = ends-then t r tick goes;
+          shows = does .1;
+        },
+      )
+
+  -- Call after call, from any such place on.
+  abbrev Goes : (ℕ → ℕ) → (ℕ → ℕ) → (ℕ → ℕ) → (ℕ → List ℕ) → Type 0
+  Goes ws ts rs m = (n : ℕ) → Leaves 72 (stepBytes (m n) (ws n) (ts n)) (m n) (m (suc n)) (rs n)
+
+  abbrev from : Ticked → Calls → ℕ → Ticked
+  from t h n = runs inPlace t (firstCalls n h) .0
+
+  abbrev says : Ticked → Calls → ℕ → Report
+  says t h n = steppedIn (from t h n) (h n .0) (h n .1) .report
+
+  abbrev Done : Ticked → Calls → (ℕ → ℕ) → (ℕ → List ℕ) → ℕ → Type 0
+  Done t h rs m n = (rs n ≡ numberOf (says t h n)) × Held (from t h (suc n)) (says t h n) (m (suc n)) × (keptOf (m n) ≡ gives (from t h n))
+
+  each-call : (n : ℕ) (ws ts rs : ℕ → ℕ) (m : ℕ → List ℕ) (t : Ticked) (report : Report) → ((n : ℕ) → Word (ts n)) → Held t report (m 0) →
+      Goes ws ts rs m → Done t (handed ws ts) rs m n
+  each-call zero ws ts rs m t report small held g =
+      let one = call t report (m 0) (m 1) (ws 0) (ts 0) (rs 0) (small 0) held (g 0) in
+      (one .0, one .1, kept p t report rest (m 0) ten (held .shows) (held .stored) (profile-of t (held .sound)))
+  each-call (suc n) ws ts rs m t report small held g =
+      let y = steppedIn t (readingOf (ws 0)) (ts 0) in
+      each-call n (λ k. ws (suc k)) (λ k. ts (suc k)) (λ k. rs (suc k)) (λ k. m (suc k)) (y .place) (y .report) (λ k. small (suc k))
+      (call t report (m 0) (m 1) (ws 0) (ts 0) (rs 0) (small 0) held (g 0) .1) (λ k. g (suc k))
+
+module _ (c : Config) {x : ClockRecord} (q : checkOf c ≡ gives x) (p i : List ℕ) (reads : readProfile p ≡ gives c) (low : Bytes i)
+    (f : Fields) (imaged : readImage i ≡ gives f) where
+  abbrev begins : Ticked
+  begins = begunWith (begun c f)
+
+  width : inWidth f ≡ true
+  width = image.read-in-width i f low imaged
+
+  start-bytes : startBytes p i ≡ gives (p ++ (i ++ (countsBytes (begun c f) (Worked 0 0) ++ ticksBytes (begins .ticks))))
+  unfolding startBytes startRead
+  start-bytes = rw (reads, imaged, starts c q f width)
+
+  call-bound : callsRead p ≡ gives (third.bound c)
+  unfolding callsRead callBoundOf waitsOwedOf
+  call-bound = rw (reads, accepted-tells c q .names)
+
+  begun-held : (rest l : List ℕ) → Shows p begins (Worked 0 0) rest l → Held c q p reads rest begins (Worked 0 0) l
+  begun-held rest l s = record {
+    sound = (refl, wide f width);
+    stored = starts-storable c f (begun c f) (starts c q f width);
+    goes = none-leaves c q f width;
+    last = tt;
+    ends = inl refl;
+    shows = s;
+  }
+
+  served : (l : List ℕ) → 72 ≤ length l → (ws ts : ℕ → ℕ) → ((n : ℕ) → Word (ts n)) → (r : ℕ) (rs : ℕ → ℕ) (m : ℕ → List ℕ) →
+      Hosts p i l ws ts r rs m → Served p c (x .clocks) f (drop 72 l) (handed ws ts) r rs m
+  served l h ws ts small r rs m g =
+      let rest = drop 72 l in
+      let v = given-all _ l (m 0) r (startBytes p i) h start-bytes (g .start) in
+      let s : Shows p begins (Worked 0 0) rest (m 0) = record { image = i; imaged = image.inverse .write-read i f low imaged; lent = v .1 } in
+      let each : (n : ℕ) → Done c q p reads rest begins (handed ws ts) rs m n =
+      λ n. each-call c q p reads rest n ws ts rs m begins (Worked 0 0) small (begun-held rest (m 0) s) (g .step) in
+      record {
+        started = v .0;
+        called = λ n. each n .0;
+        numbers = λ n. three-numbers _ _ _ (each n .1 .stored .phase) (told c f (handed ws ts) n) (rs n) (each n .0) (each n .1 .ends);
+        failed = λ n. over-by-it _ _ _ (each n .1 .stored .phase) (told c f (handed ws ts) n) (rs n) (each n .0) (each n .1 .ends);
+        returned = λ n. its-number _ _ _ (each n .1 .stored .phase) (told c f (handed ws ts) n) (rs n) (each n .0) (each n .1 .last);
+        begins = s;
+        steps = λ n. each n .1 .shows;
+        tells = λ n. tells p _ _ rest (m (suc n)) (read-length p c reads) (each n .1 .shows) (each n .1 .stored);
+        keeps = λ n. each n .2;
+        asked = call-bound;
+        placed = λ before. demand3-in-place c x q f width before (handed ws ts);
+      }
 
 pub demand3-in-c : Demand3InC
-demand3-in-c p i l bp bi h c e x q f o ws r rs m g =
-    served c q p (profile.inverse .write-read p c bp e) i f (image.read-in-width i f bi o) e o l h ws r rs m g
+demand3-in-c p i l bi h c e x q f o ws ts small r rs m g = served c q p i e bi f o l h ws ts small r rs m g
 
 -- the lent bytes after n calls
-unfoldable found : (ℕ → ℕ) → List ℕ → ℕ → List ℕ
-found ws l zero = l
-found ws l (suc n) = after (found ws l n) (written 32 (stepBytes (found ws l n) (ws n)) (found ws l n))
+unfoldable found : (ℕ → ℕ) → (ℕ → ℕ) → List ℕ → ℕ → List ℕ
+found ws ts l zero = l
+found ws ts l (suc n) = let b = found ws ts l n in bytesLeft b (leavesOf 72 (stepBytes b (ws n) (ts n)) b)
 
 pub hosts-there : HostsThere
 unfolding found
-hosts-there p i l ws =
-    let begins : Answer (List ℕ) = written 32 (startBytes p i) l in
-    let m : ℕ → List ℕ = found ws (after l begins) in (
-      numberIn begins,
-      (λ n. numberIn (written 32 (stepBytes (m n) (ws n)) (m n))),
+hosts-there p i l ws ts =
+    let starts : Answer (List ℕ) = written 72 (startBytes p i) l in
+    let m : ℕ → List ℕ = found ws ts (after l starts) in (
+      numberIn starts,
+      (λ n. numberLeft (leavesOf 72 (stepBytes (m n) (ws n) (ts n)) (m n))),
       m,
       record { start = record { number = refl; lent = refl }; step = λ n. record { number = refl; lent = refl } },
     )

@@ -1,6 +1,12 @@
-pub mod Bits
+pub mod Numbers
 pub mod Again
 pub mod Stays
-pub mod Going
+pub mod Answers
+pub mod Found
+pub mod Fitting
+pub mod Shown
+pub mod Ended
 pub mod Hosted
+pub mod Tested
+pub mod Called
 pub mod First

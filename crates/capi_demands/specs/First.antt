@@ -34,8 +34,7 @@ use Rattle.demands.specs.First.{wide}
 use Rattle.capi.specs.Calls as capi
 use Rattle.capi.specs.Owed.{keyRead, waitsRead, callsRead}
 use Rattle.capi_codec.specs.Codec.{profileFields, profileFrom, imageFields, imageFrom}
-use Rattle.startup.specs.declared.Stepped.{Stepped}
-use Rattle.capi_startup.specs.Calls.{begunWith, startRead, startBytes, callOf, stepBytes}
+use Rattle.capi_startup.specs.Calls.{startBytes, stepBytes, Leaves}
 use Rattle.capi_startup.specs.Order.{startReadTests, stepReadTests}
 use Rattle.capi_pll32.specs.Bytes.{sevenOf}
 use Rattle.capi_v1.specs.Calls as v1
@@ -62,9 +61,10 @@ abbrev pub refusing : {A : Type 0} → Answer A → Bool
 refusing (gives x) = false
 refusing (refuses n) = true
 
--- the writers of profile and image, for a place
-abbrev pub placeTests : Stepped → List Test
-placeTests x = (30, not (profile.writable (x .startup .config))) ∷ (28, not (image.inWidth (x .startup .fields))) ∷ []
+-- one that leaves a number and 72 bytes: with a number that is neither 0 nor 21 nor 22, all bytes are as they were
+abbrev pub ThroughPlace : (List ℕ → ℕ → ℕ → Answer (ℕ × List ℕ)) → (List ℕ → ℕ → List Test) → Type 0
+ThroughPlace call tests = (l : List ℕ) (w tick : ℕ) (l′ : List ℕ) (r : ℕ) → Leaves 72 (call l w tick) l l′ r →
+    (r ≡ numberIn (firstOf ((32, ltb (length l) 72) ∷ tests l w))) × ((r ≡ 0 → ⊥) → (r ≡ 21 → ⊥) → (r ≡ 22 → ⊥) → l′ ≡ l)
 
 -- the serial divisor of a PCLK and a rate
 abbrev pub SerialGoes : Type 0
@@ -91,14 +91,11 @@ pub record Demand1InC : Type 0 where
   pub read-image : (i : List ℕ) → Through 34 (imageFields i) (imageOrder.readTests i)
   pub write-image : (xs : List ℕ) →
       Through 8 (imageFrom xs) ((28, not (fitting image.widths xs)) ∷ (28, refusing (image.readImage (packed 8 image.widths xs))) ∷ [])
-  -- the startup: starting, a call on a place, each with what writes the place; the keys, the waits, the calls
+  -- the startup: starting, a call on a place; the keys, the waits, the calls
   pub start : (p i : List ℕ) →
-      Through 32 (startBytes p i)
-      (startReadTests checkTests (profileOrder.readTests p) (imageOrder.readTests i) p i ++ behind (startRead p i) (λ s. placeTests (begunWith s)))
-  pub step : (place : List ℕ) (w : ℕ) →
-      Through 32 (stepBytes place w)
-      (stepReadTests (profileOrder.readTests (take 10 place)) (imageOrder.readTests (take 8 (drop 10 place))) place w
-      ++ behind (callOf place w) placeTests)
+      Through 72 (startBytes p i) (startReadTests checkTests (profileOrder.readTests p) (imageOrder.readTests i) p i)
+  pub step : ThroughPlace stepBytes
+      (λ l w. stepReadTests (profileOrder.readTests (take 10 l)) (imageOrder.readTests (take 8 (drop 10 l))) l w)
   pub key : (position : ℕ) → Through 2 (twoWords (keyRead position)) (wide 4 position)
   pub waits : (p : List ℕ) → ThroughOne (waitsRead p) (profileOrder.readTests p ++ behind (profile.readProfile p) owedTests)
   pub calls : (p : List ℕ) → ThroughOne (callsRead p) (profileOrder.readTests p ++ behind (profile.readProfile p) owedTests)

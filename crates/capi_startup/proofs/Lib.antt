@@ -1,2 +1,4 @@
-pub mod Places
-pub mod Storing
+mod Calling
+mod Laying
+mod Placing
+mod Starting

@@ -1,19 +1,21 @@
 -- What the calls of a startup give.
 -- Assumes nothing.
 use Prim.Native.Nat.{ℕ, _/_, _%_}
-use mathlib.Core.List.{List}
-use lib.Dec.{eqb}
+use mathlib.Core.Path.{_≡_, sym, _∙_}
+use mathlib.Core.Bool.{cond, _||_}
+use mathlib.Core.List.{List, _++_}
+use lib.Dec.{eqb, ltb}
+use lib.ListN.{length, take, drop}
 use Rattle.answer.specs.Answer.{Answer, gives, refuses, refuse, _>>=_, _>>_}
 use Rattle.profile.specs.Profile.{readProfile}
-use Rattle.image.specs.Image.{readImage}
+use Rattle.image.specs.Image.{readImage, imageBytes}
 use Rattle.startup.specs.declared.Reading.{Reading}
 use Rattle.startup.specs.declared.Report.the-variants.{Worked}
 use Rattle.startup.specs.declared.Startup.{Startup}
-use Rattle.startup.specs.declared.Stepped.{Stepped}
 use Rattle.startup.specs.Call.{numberOf, startOf, stepOf}
-use Rattle.capi_startup.specs.declared.Called.{Called}
-use Rattle.capi_startup.specs.declared.Called.the-variants as called
-use Rattle.capi_startup.specs.Kept.{keptOf, placeOf}
+use Rattle.ticks.specs.Ticks.{begunWith, isOver}
+use Rattle.place.specs.Place.{leavesAsItWas}
+use Rattle.capi_startup.specs.Kept.{startupIn, ticksPart, countsBytes, ticksBytes, notedBytes}
 
 -- a reading as a number, from its lowest bit on: HSIRDY, HSERDY, PLLRDY, USBHS_PLLRDY, ETH_PLLRDY, two bits of SWS, two of SCKMOD
 unfoldable pub readingOf : ℕ → Reading
@@ -36,26 +38,47 @@ startRead p i = do
   f ← readImage i
   startOf c f
 
-abbrev pub begunWith : Startup → Stepped
-begunWith s = record { startup = s; report = Worked 0 0 }
-
+-- the place as starting leaves it: profile and image as they were handed in, and no step worked
 unfoldable pub startBytes : List ℕ → List ℕ → Answer (List ℕ)
 startBytes p i = do
   s ← startRead p i
-  placeOf (begunWith s)
+  gives (p ++ (i ++ (countsBytes s (Worked 0 0) ++ ticksBytes (begunWith s .ticks))))
 
--- one call: 30, 31, 28
-unfoldable pub callOf : List ℕ → ℕ → Answer Stepped
-callOf l w = do
-  s ← keptOf l
-  refuse 28 (eqb (numberOf (stepOf s (readingOf w) .report)) 28)
-  gives (stepOf s (readingOf w))
+-- A call of the startup s that the place l holds: the number that it returns, and the place then. Over, a startup stays; and so does a place whose call is
+-- refused, but for 21 and 22: these leave the ended startup. The profile stays in any case.
+unfoldable pub callBytes : List ℕ → Startup → ℕ → ℕ → Answer (ℕ × List ℕ)
+callBytes l s w tick =
+    let x = stepOf s (readingOf w) in
+    cond (isOver (s .phase) || leavesAsItWas (x .report)) (gives (numberOf (x .report), take 72 l)) (do
+      i ← imageBytes (x .startup .fields)
+      gives (numberOf (x .report), take 10 l ++ (i ++ (countsBytes (x .startup) (x .report) ++ notedBytes (ticksPart l) (s .unmet) tick (x .report)))))
 
-unfoldable pub stepBytes : List ℕ → ℕ → Answer (List ℕ)
-stepBytes l w = do
-  x ← callOf l w
-  placeOf x
+-- one call: 30, 31, and what the startup answers
+unfoldable pub stepBytes : List ℕ → ℕ → ℕ → Answer (ℕ × List ℕ)
+stepBytes l w tick = do
+  s ← startupIn l
+  callBytes l s w tick
 
-abbrev pub calledSays : Called → Answer Stepped
-calledSays (called.Is x) = gives x
-calledSays (called.Refused n) = refuses n
+-- The first n of the lent bytes l replaced, with a number returned; 32 first where they are fewer. A refusal leaves all of them.
+
+abbrev pub leavesOf : ℕ → Answer (ℕ × List ℕ) → List ℕ → Answer (ℕ × List ℕ)
+leavesOf n m l = do
+  refuse 32 (ltb (length l) n)
+  x ← m
+  gives (x .0, x .1 ++ drop n l)
+
+abbrev pub numberLeft : Answer (ℕ × List ℕ) → ℕ
+numberLeft (gives x) = x .0
+numberLeft (refuses k) = k
+
+abbrev pub bytesLeft : List ℕ → Answer (ℕ × List ℕ) → List ℕ
+bytesLeft l (gives x) = x .1
+bytesLeft l (refuses k) = l
+
+pub record Leaves (n : ℕ) (m : Answer (ℕ × List ℕ)) (l l′ : List ℕ) (r : ℕ) : Type 0 where
+  pub number : r ≡ numberLeft (leavesOf n m l)
+  pub lent : l′ ≡ bytesLeft l (leavesOf n m l)
+
+-- Nothing is left open: two results that the promise allows are equal.
+pub leaves-settled : {n : ℕ} {m : Answer (ℕ × List ℕ)} {l a b : List ℕ} {r s : ℕ} → Leaves n m l a r → Leaves n m l b s → (r ≡ s) × (a ≡ b)
+leaves-settled w v = (w .number ∙ sym (v .number), w .lent ∙ sym (v .lent))

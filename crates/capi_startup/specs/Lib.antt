@@ -2,3 +2,4 @@ pub mod Calls
 pub mod Kept
 pub mod Reading
 pub mod Order
+pub mod Rows

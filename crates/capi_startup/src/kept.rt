@@ -1,11 +1,9 @@
-// A startup that the host keeps in 32 lent bytes.
+// A startup with its ticks, which the host keeps in 72 lent bytes.
 ghost use mathlib.Core.Path.{_≡_};
-ghost use mathlib.Core.List.{_++_};
-ghost use Prim.Native.Nat.{_≤_};
+ghost use Prim.Native.Nat.{_+_, _≤_};
 ghost use lib.ListN.{length};
 ghost use Rattle.startup.specs.Call.{startedSays};
-ghost use Rattle.capi_give.specs.Given.{Given};
-ghost use Rattle.capi_startup.specs.Kept.{phaseOf, lastTag, tagOf, reportTag, standingOf, keptOf, tailOf, placeOf};
+ghost use Rattle.capi_startup.specs.Kept.{phaseOf, lastTag, tagOf, reportTag, numberAt, standingOf, startupIn, ticksIn, countsBytes, ticksBytes, notedBytes};
 use crate::PHASE_GOING;
 use crate::PHASE_RUNNING;
 use crate::PLACE_IMAGE;
@@ -13,7 +11,6 @@ use crate::PLACE_NAMED;
 use crate::PLACE_NUMBER;
 use crate::PLACE_PHASE;
 use crate::PLACE_REPORT;
-use crate::PLACE_SIZE;
 use crate::PLACE_STEP;
 use crate::PLACE_UNMET;
 use crate::PLACE_USED;
@@ -21,7 +18,6 @@ use crate::REPORT_FAILED;
 use crate::REPORT_RUNNING;
 use crate::REPORT_WAITING;
 use crate::REPORT_WORKED;
-use answer::Outcome;
 use image::Fields;
 use image::ReadImage;
 use profile::ReadProfile;
@@ -29,12 +25,13 @@ use startup::Phase;
 use startup::Report;
 use startup::Started;
 use startup::Startup;
-use startup::Stepped;
 use startup::named_step;
 use startup::number;
+use ticks::Ticks;
+use ticks::Waits;
 use v4x7::Config;
 
-// A phase by its byte: 0 going, 1 running, 21 to 23 how it failed. No starting leads to any other.
+// A phase by its byte: 0 going, 1 running, 21 and 22 how it failed. No call leaves any other: 23 is over by 23, and the rest is as good as 28.
 fn phase(tag: u8, step: u8, used: u32) -> Phase
     ensures { λ r. ⌜ r ≡ phaseOf tag step used ⌝ }
 {
@@ -101,26 +98,35 @@ fn report_tag(report: Report) -> u8
     }
 }
 
+// The number that four bytes of a place spell.
+fn number_at(place: &[u8], at: usize) -> u32
+    requires { ⌜ at + 4 ≤ length (now place) ⌝ }
+    ensures { λ r. ⌜ r ≡ numberAt (now (place .entry)) at ⌝ }
+{
+    layout::number(place[at], place[at + 1], place[at + 2], place[at + 3])
+}
+
 // The startup of a place whose profile and image are read.
 fn standing(config: Config, fields: Fields, place: &[u8]) -> Startup
+    requires { ⌜ 32 ≤ length (now place) ⌝ }
     ensures { λ r. ⌜ r ≡ standingOf config fields (now (place .entry)) ⌝ }
 {
-    let step = layout::code(place, PLACE_STEP * 8, 8);
-    let used = layout::word(place, PLACE_USED * 8);
+    let step = place[PLACE_STEP];
+    let used = number_at(place, PLACE_USED);
     Startup {
         config,
         fields,
         step,
-        unmet: layout::word(place, PLACE_UNMET * 8),
+        unmet: number_at(place, PLACE_UNMET),
         used,
-        phase: phase(layout::code(place, PLACE_PHASE * 8, 8), step, used),
+        phase: phase(place[PLACE_PHASE], step, used),
     }
 }
 
 // The startup that a place holds.
 pub fn kept(place: &[u8]) -> Started
     requires { ⌜ 32 ≤ length (now place) ⌝ }
-    ensures { λ r. ⌜ startedSays r ≡ keptOf (now (place .entry)) ⌝ }
+    ensures { λ r. ⌜ startedSays r ≡ startupIn (now (place .entry)) ⌝ }
 {
     match profile::read_profile(&place[..PLACE_IMAGE]) {
         ReadProfile::Refused(n) => Started::NotStarted(n),
@@ -131,95 +137,73 @@ pub fn kept(place: &[u8]) -> Started
     }
 }
 
-// A place: a profile, an image, and what stands after them.
-fn join(p: [u8; 10], i: [u8; 8], t: [u8; 14]) -> [u8; 32]
-    ensures { λ r. ⌜ r ≡ p ++ (i ++ t) ⌝ }
+// The ticks of a place: its last 40 bytes.
+fn ticks_in(part: &[u8]) -> Ticks
+    requires { ⌜ length (now part) ≡ 40 ⌝ }
+    ensures { λ r. ⌜ r ≡ ticksIn (now (part .entry)) ⌝ }
 {
-    [
-        p[0],
-        p[1],
-        p[2],
-        p[3],
-        p[4],
-        p[5],
-        p[6],
-        p[7],
-        p[8],
-        p[9],
-        i[0],
-        i[1],
-        i[2],
-        i[3],
-        i[4],
-        i[5],
-        i[6],
-        i[7],
-        t[0],
-        t[1],
-        t[2],
-        t[3],
-        t[4],
-        t[5],
-        t[6],
-        t[7],
-        t[8],
-        t[9],
-        t[10],
-        t[11],
-        t[12],
-        t[13],
-    ]
+    Ticks {
+        first: number_at(part, 0),
+        waits: Waits {
+            at2: number_at(part, 4),
+            at4: number_at(part, 8),
+            at7: number_at(part, 12),
+            at10: number_at(part, 16),
+            at12: number_at(part, 20),
+            at15: number_at(part, 24),
+            at18: number_at(part, 28),
+            at27: number_at(part, 32),
+        },
+    }
 }
 
-// What stands after profile and image: step, counts, phase, and what came of the last call.
-fn tail(x: Stepped) -> [u8; 14]
-    ensures { λ r. ⌜ r ≡ tailOf x ⌝ }
+// Lays the ticks over a place's last 40 bytes: the first one, the eight waits', the longest.
+pub fn lay_ticks(t: Ticks, part: &mut [u8])
+    requires { ⌜ length (now part) ≡ 40 ⌝ }
+    ensures { λ _. ⌜ now (part .exit) ≡ ticksBytes t ⌝ }
 {
-    let startup = x.startup;
-    let phase = startup.phase;
-    let report = x.report;
-    let unmet = layout::four_bytes(startup.unmet);
-    let used = layout::four_bytes(startup.used);
-    let mut t = [
-        startup.step,
-        unmet[0],
-        unmet[1],
-        unmet[2],
-        unmet[3],
-        used[0],
-        used[1],
-        used[2],
-        used[3],
-        tag(phase),
-        0,
-        0,
-        0,
-        0,
+    let w = t.waits;
+    let numbers = [
+        t.first,
+        w.at2,
+        w.at4,
+        w.at7,
+        w.at10,
+        w.at12,
+        w.at15,
+        w.at18,
+        w.at27,
+        w.longest(),
     ];
-    t[PLACE_REPORT - PLACE_STEP] = report_tag(report);
-    t[PLACE_NUMBER - PLACE_STEP] = number(report);
-    t[PLACE_NAMED - PLACE_STEP] = named_step(report);
-    t
+    layout::put_numbers(part, 0, &numbers);
 }
 
-// Gives a startup's place, with what came of the last call.
-pub fn store(x: Stepped, place: &mut [u8]) -> u8
-    ensures { λ r. ⌜ Given 32 (placeOf x) (now (place .entry)) (now (place .exit)) r ⌝ }
+// The ticks of a place after a call: all of them where it met a wait, and otherwise the first one alone, since the others are as they were.
+pub fn note(unmet: u32, tick: u32, report: Report, part: &mut [u8])
+    requires { ⌜ length (now part) ≡ 40 ⌝ }
+    ensures { λ _. ⌜ now (part .exit) ≡ notedBytes (now (part .entry)) unmet tick report ⌝ }
 {
-    if place.len() < PLACE_SIZE {
-        return answer::OUTPUT_TOO_SHORT;
+    let t = ticks_in(part).after(unmet, tick, report);
+    if ticks::meets_wait(report) {
+        lay_ticks(t, part);
+        return;
     }
-    let startup = x.startup;
-    let config = startup.config;
-    let fields = startup.fields;
-    let mut p = [0u8; 10];
-    if let Outcome::Refused(n) = profile::write_profile(config, &mut p) {
-        return n;
-    }
-    let mut i = [0u8; 8];
-    if let Outcome::Refused(n) = image::write_image(fields, &mut i) {
-        return n;
-    }
-    let xs = join(p, i, tail(x));
-    capi_give::give_bytes(&xs, place)
+    let first = [t.first];
+    layout::put_numbers(part, 0, &first);
+}
+
+// Lays over a place what stands between image and ticks: step, counts, phase, and what came of the last call.
+pub fn lay_counts(startup: Startup, report: Report, part: &mut [u8])
+    requires { ⌜ length (now part) ≡ 14 ⌝ }
+    ensures { λ _. ⌜ now (part .exit) ≡ countsBytes startup report ⌝ }
+{
+    let phase = startup.phase;
+    let numbers = [startup.unmet, startup.used];
+    part[0] = startup.step;
+    layout::put_numbers(part, PLACE_UNMET - PLACE_STEP, &numbers);
+    part[PLACE_PHASE - PLACE_STEP] = tag(phase);
+    part[PLACE_REPORT - PLACE_STEP] = report_tag(report);
+    part[PLACE_NUMBER - PLACE_STEP] = number(report);
+    part[PLACE_NAMED - PLACE_STEP] = named_step(report);
+    part[13] = 0;
 }

@@ -1,4 +1,4 @@
-// The V4x7 startup for C and Rust: a startup that the host keeps in 32 lent bytes.
+// The V4x7 startup for C and Rust: a startup with its ticks, which the host keeps in 72 lent bytes.
 mod kept;
 
 ghost use mathlib.Core.Path.{_≡_};
@@ -6,21 +6,24 @@ ghost use Prim.Native.Nat.{_≤_};
 ghost use lib.ListN.{length};
 ghost use Rattle.startup.specs.Call.{startedSays};
 ghost use Rattle.capi_give.specs.Given.{Given};
-ghost use Rattle.capi_startup.specs.Calls.{readingOf, startRead, startBytes, callOf, calledSays, stepBytes};
+ghost use Rattle.capi_startup.specs.Calls.{readingOf, startRead, startBytes, callBytes, stepBytes, Leaves};
+use answer::Outcome;
 use image::ReadImage;
 use image::Seen;
 use kept::kept;
-use kept::store;
+use kept::lay_counts;
+use kept::lay_ticks;
+use kept::note;
 use profile::ReadProfile;
 use startup::Reading;
 use startup::Report;
 use startup::Started;
 use startup::Startup;
-use startup::Stepped;
 use startup::number;
+use ticks::Ticked;
 
 // A place's bytes. Its first ten are the profile.
-pub const PLACE_SIZE: usize = 32;
+pub const PLACE_SIZE: usize = 72;
 // The image, eight bytes: after a call the host writes its fields to the chip, but for the ready bits and SWS.
 pub const PLACE_IMAGE: usize = 10;
 // The step whose turn it is.
@@ -29,14 +32,20 @@ pub const PLACE_STEP: usize = 18;
 pub const PLACE_UNMET: usize = 19;
 // All readings used, four bytes.
 pub const PLACE_USED: usize = 23;
-// Whether the startup is over: PHASE_GOING, PHASE_RUNNING, or the refusal that ended it (21, 22 or 23).
+// Whether the startup is over: PHASE_GOING, PHASE_RUNNING, or the refusal that ended it (21 or 22).
 pub const PLACE_PHASE: usize = 27;
-// What the last call reports: a REPORT_ number.
+// What the last call that changed the place reports: a REPORT_ number.
 pub const PLACE_REPORT: usize = 28;
-// The last call's refusal: 0, 21, 22 or 23.
+// That call's refusal: 0, 21 or 22.
 pub const PLACE_NUMBER: usize = 29;
-// The step that the last call names; 0 before the first call and with 23.
+// The step that it names; 0 before the first call.
 pub const PLACE_NAMED: usize = 30;
+// The tick of the first reading of the wait whose turn it is, four bytes; it counts where PLACE_UNMET is not 0.
+pub const PLACE_FIRST_TICK: usize = 32;
+// The ticks of the eight waits (steps 2, 4, 7, 10, 12, 15, 18 and 27), four bytes each.
+pub const PLACE_TICKS: usize = 36;
+// The longest of them, four bytes.
+pub const PLACE_LONGEST: usize = 68;
 
 // In byte PLACE_PHASE: not over, call again.
 pub const PHASE_GOING: u8 = 0;
@@ -67,12 +76,6 @@ pub const SWS: u16 = 32;
 // SCKMOD, two bits: its value times this.
 pub const SCKMOD: u16 = 128;
 
-// What a call on a place gives: the startup with its report, or a refusal number.
-enum Called {
-    Is(Stepped),
-    Refused(u8),
-}
-
 fn reading(w: u16) -> Reading
     ensures { λ r. ⌜ r ≡ readingOf w ⌝ }
 {
@@ -101,11 +104,11 @@ fn begin(p: &[u8], i: &[u8]) -> Started
     }
 }
 
-// Starts a startup with a profile of ten bytes and the image of the registers as they are, eight bytes, and keeps it in the place's first 32 bytes.
-// Refused by 32, 29, 30, 31, then by the check's 1 to 16.
+// Starts a startup with a profile of ten bytes and the image of the registers as they are, eight bytes, and keeps it in the place's first 72 bytes.
+// Refused by 32, 29, 30, 31, then by the check's 1 to 16; the place then stays as it was.
 #[no_mangle]
 pub extern "C" fn wontabeli_start(p: &[u8], i: &[u8], place: &mut [u8]) -> u8
-    ensures { λ r. ⌜ Given 32 (startBytes (now (p .entry)) (now (i .entry))) (now (place .entry)) (now (place .exit)) r ⌝ }
+    ensures { λ r. ⌜ Given 72 (startBytes (now (p .entry)) (now (i .entry))) (now (place .entry)) (now (place .exit)) r ⌝ }
 {
     if place.len() < PLACE_SIZE {
         return answer::OUTPUT_TOO_SHORT;
@@ -113,40 +116,60 @@ pub extern "C" fn wontabeli_start(p: &[u8], i: &[u8], place: &mut [u8]) -> u8
     match begin(p, i) {
         Started::NotStarted(n) => n,
         Started::Begun(startup) => {
+            let ticked = Ticked::begin(startup);
             let report = Report::Worked { step: 0, used: 0 };
-            store(Stepped { startup, report }, place)
+            capi_give::give_bytes(p, &mut place[..PLACE_IMAGE]);
+            capi_give::give_bytes(i, &mut place[PLACE_IMAGE..PLACE_STEP]);
+            lay_counts(startup, report, &mut place[PLACE_STEP..PLACE_FIRST_TICK]);
+            lay_ticks(ticked.ticks, &mut place[PLACE_FIRST_TICK..PLACE_SIZE]);
+            0
         }
     }
 }
 
-fn call(place: &[u8], w: u16) -> Called
-    requires { ⌜ 32 ≤ length (now place) ⌝ }
-    ensures { λ r. ⌜ calledSays r ≡ callOf (now (place .entry)) w ⌝ }
+// A call of the startup that a place holds. Where the startup is over, or the call is refused but for 21 and 22, the place stays as it was. The profile stays
+// in any case.
+fn call(startup: Startup, w: u16, tick: u32, place: &mut [u8]) -> u8
+    requires { ⌜ 72 ≤ length (now place) ⌝ }
+    ensures { λ r. ⌜ Leaves 72 (callBytes (now (place .entry)) startup w tick) (now (place .entry)) (now (place .exit)) r ⌝ }
 {
-    match kept(place) {
-        Started::NotStarted(n) => Called::Refused(n),
-        Started::Begun(startup) => {
-            let x = startup.step(reading(w));
-            let report = x.report;
-            if number(report) == answer::CODE_NOT_ALLOWED {
-                return Called::Refused(answer::CODE_NOT_ALLOWED);
-            }
-            Called::Is(x)
-        }
+    let phase = startup.phase;
+    let unmet = startup.unmet;
+    let x = startup.step(reading(w));
+    let after = x.startup;
+    let report = x.report;
+    if ticks::is_over(phase) | place::leaves_as_it_was(report) {
+        return number(report);
     }
+    // It refuses no startup that is worked: its fields are in width.
+    if let Outcome::Refused(n) = image::write_image(
+        after.fields,
+        &mut place[PLACE_IMAGE..PLACE_STEP],
+    ) {
+        return n;
+    }
+    lay_counts(after, report, &mut place[PLACE_STEP..PLACE_FIRST_TICK]);
+    note(
+        unmet,
+        tick,
+        report,
+        &mut place[PLACE_FIRST_TICK..PLACE_SIZE],
+    );
+    number(report)
 }
 
-// One call of the startup that the place holds: one step's work done or one reading used. The place then says how it went; its image is what the
-// host writes to the chip. Refused by 32; by 30, 31 or 28 where no starting leads to these bytes.
+// One call of the startup that the place holds, with a reading and a tick: one step's work done or one reading used. 0: the place then says how it went; its
+// image is what the host writes to the chip. 21 or 22: the startup is over, as the place then says. Refused by 32; by 30, 31 or 28 where no starting leads to
+// these bytes; by 23: the place then stays as it was.
 #[no_mangle]
-pub extern "C" fn wontabeli_step(place: &mut [u8], w: u16) -> u8
-    ensures { λ r. ⌜ Given 32 (stepBytes (now (place .entry)) w) (now (place .entry)) (now (place .exit)) r ⌝ }
+pub extern "C" fn wontabeli_step(place: &mut [u8], w: u16, tick: u32) -> u8
+    ensures { λ r. ⌜ Leaves 72 (stepBytes (now (place .entry)) w tick) (now (place .entry)) (now (place .exit)) r ⌝ }
 {
     if place.len() < PLACE_SIZE {
         return answer::OUTPUT_TOO_SHORT;
     }
-    match call(place, w) {
-        Called::Refused(n) => n,
-        Called::Is(x) => store(x, place),
+    match kept(place) {
+        Started::NotStarted(n) => n,
+        Started::Begun(startup) => call(startup, w, tick, place),
     }
 }

@@ -6,6 +6,8 @@ mod power;
 mod query;
 mod reply;
 mod rules;
+mod script;
+mod ticked;
 mod trays;
 mod v4;
 
@@ -27,6 +29,7 @@ fn answer(q: &[u8; 128]) -> [u8; 64] {
         0x40 | 0x41 => brr::answer(kind, q),
         0x42 => trays::board(q),
         0x43 => trays::tray(q),
+        0x44 => ticked::startup(q),
         _ => families::answer(kind, q),
     }
 }

@@ -1,22 +1,17 @@
 // Whole startups over a script of readings, and one call of a startup as it stands.
 use crate::query;
 use crate::reply;
+use crate::script;
+use crate::script::Cursor;
 use image::Fields;
 use startup::FlashKey;
 use startup::Phase;
-use startup::Reading;
 use startup::Report;
 use startup::Started;
 use startup::Startup;
 use tree::Buses;
 use tree::HseFrequency;
 use v4x7::Hse;
-
-// Where a script stands: the segment in use, and how many of its readings were used.
-struct Cursor {
-    segment: usize,
-    taken: u32,
-}
 
 // A run so far: the startup, the last report and whether there was one, the script's place, the calls, and how many of them named step 19.
 struct Run {
@@ -27,38 +22,8 @@ struct Run {
     keyed: u32,
 }
 
-// The count of a segment, three bytes; 0 past the last.
-fn count(q: &[u8; 128], segment: usize) -> u32 {
-    if 13 <= segment {
-        return 0;
-    }
-    query::word(q, 60 + segment * 5) % 0x100_0000
-}
-
-// On to the next segment where this one is used up and another follows.
-fn settled(q: &[u8; 128], c: Cursor) -> Cursor {
-    let segment = c.segment;
-    if segment < 12 {
-        if (count(q, segment) <= c.taken) & (0 < count(q, segment + 1)) {
-            return Cursor {
-                segment: segment + 1,
-                taken: 0,
-            };
-        }
-    }
-    c
-}
-
-fn reading_at(q: &[u8; 128], segment: usize) -> Reading {
-    if 13 <= segment {
-        return query::reading(0, 0);
-    }
-    let at = 64 + segment * 5;
-    query::reading(q[at], q[at + 1])
-}
-
 // The readings that a report counts; those of the startup where it counts none.
-fn used(report: Report, startup: Startup) -> u32 {
+pub fn used(report: Report, startup: Startup) -> u32 {
     match report {
         Report::Worked { step: _, used } => used,
         Report::Waiting { step: _, used } => used,
@@ -73,7 +38,7 @@ fn used(report: Report, startup: Startup) -> u32 {
 }
 
 // 0 not over, 1 over and running, 2 over by a refusal.
-fn over(startup: Startup) -> u8 {
+pub fn over(startup: Startup) -> u8 {
     let phase = startup.phase;
     match phase {
         Phase::Going => 0,
@@ -91,34 +56,23 @@ fn over(startup: Startup) -> u8 {
     }
 }
 
-// One more, up to what a script can count: three bytes.
-fn one_more(n: u32) -> u32 {
-    if n < 16777216 { n + 1 } else { n }
-}
-
 // One call with the script's next reading; a reading that the call ignored stays the next one.
 fn advanced(q: &[u8; 128], r: Run) -> Run {
     let before = r.startup;
     let place = r.cursor;
-    let cursor = settled(q, place);
-    let stepped = before.step(reading_at(q, cursor.segment));
+    let cursor = script::settled(q, place);
+    let stepped = before.step(script::reading_at(q, cursor.segment));
     let startup = stepped.startup;
     let report = stepped.report;
-    let mut taken = cursor.taken;
-    if before.used < used(report, startup) {
-        taken = one_more(cursor.taken);
-    }
+    let next = script::after(cursor, before.used < used(report, startup));
     let mut keyed = r.keyed;
     if startup::named_step(report) == 19 {
-        keyed = one_more(r.keyed);
+        keyed = script::one_more(r.keyed);
     }
     Run {
         startup,
         report,
-        cursor: Cursor {
-            segment: cursor.segment,
-            taken,
-        },
+        cursor: next,
         calls: r.calls,
         keyed,
     }
@@ -151,7 +105,7 @@ fn repeated(q: &[u8; 128], r: Run) -> Run {
     if over(startup) == 0 {
         return r;
     }
-    let stepped = startup.step(reading_at(q, 0));
+    let stepped = startup.step(script::reading_at(q, 0));
     let cursor = r.cursor;
     let after = stepped.startup;
     let report = stepped.report;
@@ -164,12 +118,12 @@ fn repeated(q: &[u8; 128], r: Run) -> Run {
     }
 }
 
-fn put_image(a: [u8; 64], fields: Fields) -> [u8; 64] {
+pub fn put_image(a: [u8; 64], at: usize, fields: Fields) -> [u8; 64] {
     let mut bytes = [0u8; 8];
     image::write_image(fields, &mut bytes);
     let high = query::word_of(bytes[0], bytes[1], bytes[2], bytes[3]);
     let low = query::word_of(bytes[4], bytes[5], bytes[6], bytes[7]);
-    reply::word(reply::word(a, 12, high), 16, low)
+    reply::words(a, at, high, low)
 }
 
 fn frequency(hse: Hse) -> HseFrequency {
@@ -232,7 +186,7 @@ fn told(kind: u8, r: Run) -> [u8; 64] {
     let b = reply::word(reply::byte(a, 3, over(startup)), 4, used(report, startup));
     put_unmet(
         put_keys(
-            put_decoded(put_image(reply::word(b, 8, r.calls), fields), startup),
+            put_decoded(put_image(reply::word(b, 8, r.calls), 12, fields), startup),
             r.keyed,
         ),
         startup.unmet,
@@ -244,10 +198,7 @@ fn run_of(startup: Startup, report: Report, calls: u32, keyed: u32) -> Run {
     Run {
         startup,
         report,
-        cursor: Cursor {
-            segment: 0,
-            taken: 0,
-        },
+        cursor: script::first(),
         calls,
         keyed,
     }

@@ -37,6 +37,14 @@ pub fn word(a: [u8; 64], at: usize, x: u32) -> [u8; 64] {
     out
 }
 
+// Two numbers from a place on.
+pub fn words(a: [u8; 64], at: usize, x: u32, y: u32) -> [u8; 64] {
+    if 56 < at {
+        return a;
+    }
+    word(word(a, at, x), at + 4, y)
+}
+
 // A number at byte 2, or the refusal number.
 pub fn number(kind: u8, answer: Reply) -> [u8; 64] {
     match answer {

@@ -1,7 +1,7 @@
 //! A host in Rust: checks a profile, asks for a serial divisor, decodes a V30x board, then starts a simulated chip, with a good crystal and with a dead one.
 use std::num::NonZeroU32;
 use wontabeli::numbers::*;
-use wontabeli::{call_bound, check, read_image, v30x, Chip, Config, FlashKey, Hse, PllMul, PllSource, Reading, Refusal, Report, Startup, Sysclk};
+use wontabeli::{call_bound, check, read_image, v30x, Chip, Config, FlashKey, Hse, PllMul, PllSource, Reading, Refusal, Report, Startup, Sysclk, WAITS};
 
 /// HSE 8 MHz, main PLL from it by 12.5, the system clock from that.
 fn config() -> Config {
@@ -15,6 +15,18 @@ struct Simulated {
     image: [u8; IMAGE_SIZE],
     crystal: bool,
     keys: u32,
+    /// How many readings HSI, HSE and the main PLL have been on for.
+    hsi: u32,
+    hse: u32,
+    pll: u32,
+    /// A counter of 32 bits that goes 100 on with each reading. It begins 2,500 before its end, so that it wraps while the crystal is waited for.
+    tick: u32,
+}
+
+/// A part is ready at this reading since it is on.
+fn ready(on: u8, readings: &mut u32, needed: u32) -> bool {
+    *readings = if on == 1 { *readings + 1 } else { 0 };
+    *readings >= needed
 }
 
 impl Chip for Simulated {
@@ -27,24 +39,36 @@ impl Chip for Simulated {
         self.keys += 1;
     }
 
-    // What is on is ready, and the clock that was asked for is in use.
+    // What is on becomes ready, and the clock that was asked for is in use.
     fn read(&mut self) -> Reading {
         let f = read_image(&self.image).expect("the startup's own image");
+        self.tick = self.tick.wrapping_add(100);
         Reading {
-            hsirdy: f[IMAGE_HSION] == 1,
-            hserdy: f[IMAGE_HSEON] == 1 && self.crystal,
-            pllrdy: f[IMAGE_PLLON] == 1,
+            hsirdy: ready(f[IMAGE_HSION], &mut self.hsi, 2),
+            hserdy: ready(f[IMAGE_HSEON], &mut self.hse, 31) && self.crystal,
+            pllrdy: ready(f[IMAGE_PLLON], &mut self.pll, 4),
             usbhs_pllrdy: f[IMAGE_USBHS_PLLON] == 1,
             eth_pllrdy: f[IMAGE_ETH_PLLON] == 1,
             sws: f[IMAGE_SW],
             sckmod: f[IMAGE_SCKMOD],
         }
     }
+
+    fn tick(&mut self) -> u32 {
+        self.tick
+    }
+}
+
+/// How many ticks each wait took: examples/c/main.c has them by hand.
+fn tell(startup: &Startup) {
+    let ticks: String = WAITS.iter().map(|step| format!(" {step}:{}", startup.ticks(*step))).collect();
+    println!("ticks{ticks}, longest {}", startup.longest_wait());
 }
 
 fn start(profile: &[u8], crystal: bool) -> Result<(), Refusal> {
-    let mut chip = Simulated { crystal, ..Simulated::default() };
-    match Startup::start(profile, &chip.image)?.run(&mut chip)? {
+    let mut chip = Simulated { crystal, tick: 0u32.wrapping_sub(2_500), ..Simulated::default() };
+    let mut startup = Startup::start(profile, &chip.image)?;
+    match startup.run(&mut chip)? {
         Report::Running { used, .. } => println!("running, {used} readings, {} keys written", chip.keys),
         Report::Failed { refusal, step, used } => println!("stopped by {} at step {step}, {used} readings", refusal.number()),
         Report::Worked { .. } | Report::Waiting { .. } => {
@@ -52,6 +76,7 @@ fn start(profile: &[u8], crystal: bool) -> Result<(), Refusal> {
             std::process::exit(1);
         }
     }
+    tell(&startup);
     Ok(())
 }
 

@@ -13,6 +13,7 @@ pub mod random;
 mod rules;
 pub mod serial;
 pub mod startup;
+pub mod ticks;
 pub mod trays;
 mod wide;
 
@@ -77,6 +78,19 @@ const SETS: [Set; 52] = [
     (fields::SELECTIONS, 400, fields::selections),
 ];
 
+/// Startups with ticks: the recorded list draws them behind all others.
+const TICKED: [Set; 9] = [
+    (ticks::WAITED, 150, ticks::waited),
+    (ticks::ACROSS, 100, ticks::across),
+    (ticks::LONGEST, 100, ticks::longest),
+    (ticks::STOPPED, 150, ticks::stopped),
+    (ticks::MODES, ticks::MODES, ticks::modes),
+    (ticks::ENDED, ticks::ENDED, ticks::ended),
+    (ticks::REFUSED, ticks::REFUSED, ticks::refused),
+    (ticks::WIDE, ticks::WIDE, ticks::wide),
+    (ticks::LONG, 0, ticks::long),
+];
+
 /// A query of document 01's calls.
 pub fn random_query(r: &mut Random) -> Query {
     match r.below(32) {
@@ -120,39 +134,55 @@ impl Iterator for Queries {
             return None;
         }
         self.left -= 1;
-        while self.set < SETS.len() && self.at == SETS[self.set].0 {
+        let mut sets = SETS.iter().chain(&TICKED).skip(self.set).peekable();
+        while sets.next_if(|set| set.0 == self.at).is_some() {
             self.set += 1;
             self.at = 0;
         }
-        if self.set == SETS.len() {
-            // One in 32 is a serial divisor, and one a board or a tray.
-            return Some(match self.left % 32 {
-                0 => serial::random(&mut self.random),
-                16 => boards::random(&mut self.random),
-                _ => random_query(&mut self.random),
-            });
+        if let Some(set) = sets.next() {
+            self.at += 1;
+            return Some((set.2)(self.at - 1));
         }
-        self.at += 1;
-        Some((SETS[self.set].2)(self.at - 1))
+        // One in 32 is a serial divisor, one a startup with ticks, and one a board or a tray.
+        Some(match self.left % 32 {
+            0 => serial::random(&mut self.random),
+            8 => ticks::random(&mut self.random),
+            16 => boards::random(&mut self.random),
+            _ => random_query(&mut self.random),
+        })
     }
 }
 
 /// The queries of the recorded list: some of each set, then random ones. Long waits are few: a gate replays them.
 pub fn recorded(r: &mut Random) -> Vec<Query> {
+    let mut queries = drawn(r, &SETS);
+    // A timeout at the first wait, and the last wait met at its 1,000,000th reading.
+    queries.push(startup::long(0));
+    queries.push(startup::last_moment());
+    queries.extend((0..2_000).map(|_| random_query(r)));
+    queries
+}
+
+/// Those with ticks, and of the long waits one that fails.
+pub fn recorded_ticks(r: &mut Random) -> Vec<Query> {
+    let mut queries = drawn(r, &TICKED);
+    queries.push(ticks::long(0));
+    queries.extend((0..60).map(|_| ticks::random(r)));
+    queries
+}
+
+/// As many of each set as the recorded list takes: all, or some of them by chance.
+fn drawn(r: &mut Random, sets: &[Set]) -> Vec<Query> {
     let mut queries = Vec::new();
-    for (size, wanted, query) in SETS {
-        for i in 0..wanted.min(size) {
+    for (size, wanted, query) in sets {
+        for i in 0..*wanted.min(size) {
             let at = if wanted < size {
-                r.below(size as u32) as usize
+                r.below(*size as u32) as usize
             } else {
                 i
             };
             queries.push(query(at));
         }
     }
-    // A timeout at the first wait, and the last wait met at its 1,000,000th reading.
-    queries.push(startup::long(0));
-    queries.push(startup::last_moment());
-    queries.extend((0..2_000).map(|_| random_query(r)));
     queries
 }

@@ -11,16 +11,21 @@ use crate::rust::checked;
 pub type Script = Vec<(u32, [u8; 2])>;
 
 pub fn startup(config: &[u8], fields: &[u8], limit: u32, script: &Script) -> Query {
+    query(STARTUP, &[config, fields, &limit.to_be_bytes(), &segments(script, SEGMENTS)])
+}
+
+/// A script's segments, as many as a query has room for.
+pub fn segments(script: &Script, room: usize) -> Vec<u8> {
     let mut bytes = Vec::new();
-    for (count, reading) in script.iter().take(SEGMENTS) {
+    for (count, reading) in script.iter().take(room) {
         bytes.extend_from_slice(&count.to_be_bytes()[1..]);
         bytes.extend_from_slice(reading);
     }
-    query(STARTUP, &[config, fields, &limit.to_be_bytes(), &bytes])
+    bytes
 }
 
 /// Changes a reading so that it meets, or doesn't, the wait of a step; its other bits stay.
-fn bend(reading: [u8; 2], step: u8, config: &[u8; CONFIG], meets: bool) -> [u8; 2] {
+pub fn bend(reading: [u8; 2], step: u8, config: &[u8; CONFIG], meets: bool) -> [u8; 2] {
     let [mut ready, mut rest] = reading;
     let flag = |ready: u8, bit: u8| if meets { ready | bit } else { ready & !bit };
     let sws = |rest: u8, wanted: u8| {
@@ -46,7 +51,7 @@ fn bend(reading: [u8; 2], step: u8, config: &[u8; CONFIG], meets: bool) -> [u8; 
     [ready, rest]
 }
 
-fn any_reading(r: &mut Random) -> [u8; 2] {
+pub fn any_reading(r: &mut Random) -> [u8; 2] {
     [r.byte() & 0xf8, r.byte()]
 }
 

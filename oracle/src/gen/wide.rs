@@ -189,7 +189,10 @@ pub fn each(i: usize) -> Query {
 /// A configuration with every part; refused: by 4.
 fn one_config(mut d: Digits, refused: bool) -> Query {
     let kind = d.from(&WITH_CONFIG);
-    let place = d.of(CODES.len() + HOLES.len());
+    with(kind, &one_code(d.of(CODES.len() + HOLES.len()), refused), &[0; FIELDS])
+}
+
+fn one_code(place: usize, refused: bool) -> [u8; CONFIG] {
     let mut config = GOOD[10];
     let (at, code) = match CODES.get(place) {
         Some((at, largest)) => (*at, largest + 1),
@@ -199,15 +202,20 @@ fn one_config(mut d: Digits, refused: bool) -> Query {
     if refused {
         config::set_frequency(&mut config, 4_999_999);
     }
-    with(kind, &config, &[0; FIELDS])
+    config
 }
 
 /// Fields all zero; refused: by 3 in the decoder, by 4 in the startup's calls.
 fn one_fields(mut d: Digits, refused: bool) -> Query {
     let kind = d.from(&WITH_FIELDS);
+    let (config, fields) = one_field(d.of(WIDE_FIELDS), refused);
+    with(kind, &config, &fields)
+}
+
+fn one_field(place: usize, refused: bool) -> ([u8; CONFIG], [u8; FIELDS]) {
     let codes: Vec<usize> = (0..FIELDS).filter(|at| IMAGE[*at] > 1).collect();
     assert_eq!(codes.len(), WIDE_FIELDS);
-    let at = d.from(&codes);
+    let at = codes[place];
     let mut config = GOOD[10];
     let mut fields = [0; FIELDS];
     if refused {
@@ -215,7 +223,17 @@ fn one_fields(mut d: Digits, refused: bool) -> Query {
         fields[12] = 1;
     }
     fields[at] = 1 << IMAGE[at];
-    with(kind, &config, &fields)
+    (config, fields)
+}
+
+/// The same for what a startup is begun with: each code, then each field.
+pub const BEGUN: usize = (CODES.len() + HOLES.len() + WIDE_FIELDS) * 2;
+pub fn begun(i: usize) -> ([u8; CONFIG], [u8; FIELDS]) {
+    let (refused, place) = (i % 2 == 1, i / 2);
+    match place.checked_sub(CODES.len() + HOLES.len()) {
+        None => (one_code(place, refused), [0; FIELDS]),
+        Some(place) => one_field(place, refused),
+    }
 }
 
 /// A V4x7 query of a kind: at step 1 with no reading, or with ten lent bytes.

@@ -10,6 +10,7 @@ pub mod profile;
 mod rules;
 pub mod serial;
 pub mod text;
+pub mod ticks;
 pub mod tray;
 
 use crate::record::*;
@@ -27,6 +28,7 @@ pub fn alone(q: &Query) -> Option<Answer> {
         WRITE_IMAGE => Some(codec::write_image(q)),
         SERIAL | PORT => Some(serial::answer(q)),
         BOARD | TRAY => Some(tray::answer(q)),
+        TICKED => Some(ticks::answer(q)),
         kind if !codes::allowed(q) => Some(refused(kind, 28)),
         _ => None,
     }

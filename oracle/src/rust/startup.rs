@@ -56,6 +56,12 @@ pub fn run(q: &Query, held: bool) -> Answer {
     }
 }
 
+/// What `init` answers over a record that is held, and the step that each call worked; none where it was not started.
+pub fn worked(q: &Query) -> (Answer, Vec<u8>) {
+    let a = run(q, true);
+    (a, chip(|chip| std::mem::take(&mut chip.steps)))
+}
+
 /// Whether `init`, at step 28, sees another SWS than the last used reading's.
 pub fn switched_away(q: &Query) -> bool {
     run(q, false);

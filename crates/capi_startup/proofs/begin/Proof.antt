@@ -1,3 +1,4 @@
+-- `begin` meets its contract. Assumes nothing.
 use borrow.Author.Needs.{needs}
 use Rattle.answer.specs.Answer.{told}
 use Rattle.image.specs.Image.{readImageSays}

@@ -1,3 +1,4 @@
+-- `reading` meets its contract. Assumes nothing.
 use mathlib.Core.Path.{refl}
 use borrow.Author.Needs.{needs}
 use Rattle.capi_startup.specs.Calls.{readingOf}

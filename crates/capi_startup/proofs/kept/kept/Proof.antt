@@ -1,3 +1,4 @@
+-- `kept::kept` meets its contract. Assumes nothing.
 use mathlib.Core.Path.{sym, ap}
 use Prim.Native.Nat.{_≤_}
 use native.Mathlib.Omega.{arith}
@@ -7,7 +8,7 @@ use lib.Seq.{length-take-le}
 use Rattle.answer.specs.Answer.{told, gives}
 use Rattle.image.specs.Image.{readImageSays}
 use Rattle.profile.specs.Profile.{readProfileSays}
-use Rattle.capi_startup.specs.Kept.{keptOf}
+use Rattle.capi_startup.specs.Kept.{startupIn}
 use Rattle.capi_startup.proofs.kept.kept.Statement.{statement}
 use Rattle.capi_startup.proofs.kept.kept.Tie as tie
 
@@ -18,7 +19,7 @@ slice-aggregate-read-profile c =
     sym (length-take-le 10 now h)
 
 returns-2 : tie.Need-returns-2
-unfolding keptOf
+unfolding startupIn
 returns-2 c =
     let at-read-image = c .before .before .before in
     let at-config = at-read-image .before .before .before in
@@ -28,7 +29,7 @@ returns-2 c =
     )
 
 returns-3 : tie.Need-returns-3
-unfolding keptOf
+unfolding startupIn
 returns-3 c =
     let at-fields = c .before .before in
     let at-read-image = at-fields .before .before in
@@ -39,7 +40,7 @@ returns-3 c =
     ) (ap gives (c .standing .ensures))
 
 pub kept-spec : {M : Type 1} → statement M
-unfolding keptOf
+unfolding startupIn
 kept-spec =
     tie.close
     (tie.spec slice-aggregate-read-profile (search needs) (search needs) (search needs) (search needs) (search needs) (search needs)

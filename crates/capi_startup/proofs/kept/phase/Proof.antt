@@ -1,3 +1,4 @@
+-- `kept::phase` meets its contract. Assumes nothing.
 use borrow.Author.Tests.{eq-eqb, ne-eqb}
 use Rattle.capi_startup.specs.Kept.{phaseOf}
 use Rattle.capi_startup.proofs.kept.phase.Statement.{statement}

@@ -1,0 +1,2 @@
+mod ByValue
+mod Walk
