@@ -1,7 +1,7 @@
 -- A call of a startup, by what its tests and its step come to.
 -- Assumes nothing.
 use Prim.Native.Nat.{ℕ, zero, suc}
-use mathlib.Core.Path.{_≡_, refl, sym, ap, _∙_}
+use mathlib.Core.Path.{_≡_, refl, sym, ap, ap₂, _∙_}
 use mathlib.Core.Bool.{Bool, true, false, cond, not, _||_}
 use lib.Dec.{ltb}
 use Rattle.answer.specs.Answer.{Answer}
@@ -28,22 +28,22 @@ use Rattle.startup.specs.Call.{seenOf, handedBack, Event, back, cameTo, 
 abbrev pub came : Startup → Fields → Event → Stepped
 came s f e = cameTo (nextOf (s .config) (s .step)) s f e
 
--- What `perform` answered, w, with the ready bits and SWS that the reading shows, is the step's work.
-module _ (s : Startup) (r : Reading) (x : Clocks) {seen : Seen} {w : Work}
-    (es : seen ≡ seenOf r) (ew : w ≡ workOf (s .config) x (s .step) (s .fields) seen) where
+-- What `perform` answered, w, with the ready bits and SWS that the reading shows, is the step's work; what `next` answered is the step after it.
+module _ (s : Startup) (r : Reading) (x : Clocks) {seen : Seen} {after : ℕ} {w : Work}
+    (es : seen ≡ seenOf r) (ea : after ≡ nextOf (s .config) (s .step)) (ew : w ≡ workOf (s .config) x (s .step) (s .fields) seen) where
   pub by-work : (v : Work) → w ≡ v →
-      came s (seeing s r) (eventOf 1000000 s r v) ≡
+      cameTo after s (seeing s r) (eventOf 1000000 s r v) ≡
       came s (seeing s r) (eventOf 1000000 s r (workOf (s .config) x (s .step) (s .fields) (seenOf r)))
   by-work v e =
-      ap (λ (u : Work). came s (seeing s r) (eventOf 1000000 s r u))
+      ap₂ (λ (n : ℕ) (u : Work). cameTo n s (seeing s r) (eventOf 1000000 s r u)) ea
       (sym e ∙ ew ∙ ap (λ (u : Seen). workOf (s .config) x (s .step) (s .fields) u) es)
 
   -- the same, of a step that looks at the reading
   pub by-reading : {g : Fields} (v : Work) → g ≡ withSeen (s .fields) seen → w ≡ v →
-      came s g (eventOf 1000000 s r v) ≡
+      cameTo after s g (eventOf 1000000 s r v) ≡
       came s (seeing s r) (eventOf 1000000 s r (workOf (s .config) x (s .step) (s .fields) (seenOf r)))
   by-reading v eg e =
-      ap (λ (h : Fields). came s h (eventOf 1000000 s r v)) (eg ∙ ap (withSeen (s .fields)) es) ∙ by-work v e
+      ap (λ (h : Fields). cameTo after s h (eventOf 1000000 s r v)) (eg ∙ ap (withSeen (s .fields)) es) ∙ by-work v e
 
 -- A call by the startup's codes, its phase and the check's answer.
 module _ (s : Startup) (r : Reading) {w : Bool} (ew : w ≡ inWidth (s .fields)) where

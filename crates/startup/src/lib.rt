@@ -5,7 +5,7 @@ mod steps;
 ghost use mathlib.Core.Path.{_≡_};
 ghost use mathlib.Core.Bool.{cond};
 ghost use lib.Dec.{ltb};
-ghost use Prim.Native.Nat.{_+_, _≤_, _<_};
+ghost use Prim.Native.Nat.{ℕ, _+_, _≤_, _<_};
 ghost use Rattle.answer.specs.Said.{replySays};
 ghost use Rattle.startup.specs.Writes.{withSeen};
 ghost use Rattle.startup.specs.Steps.{nextOf, workOf};
@@ -207,18 +207,17 @@ fn next(config: Config, step: u8) -> u8
     n
 }
 
-// The step is worked: on to the next, with these fields and so many readings used.
-fn onward(s: Startup, fields: Fields, used: u32) -> Stepped
-    ensures { λ r. ⌜ r ≡ moved (nextOf (s .config) (s .step)) s fields used ⌝ }
+// The step is worked: on to the one after it, with these fields and so many readings used.
+fn onward(after: u8, s: Startup, fields: Fields, used: u32) -> Stepped
+    ensures { λ r. ⌜ r ≡ moved after s fields used ⌝ }
 {
     let config = s.config;
     let step = s.step;
-    let n = next(config, step);
     Stepped {
         startup: Startup {
             config,
             fields,
-            step: n,
+            step: after,
             unmet: 0,
             used,
             phase: Phase::Going,
@@ -247,7 +246,7 @@ fn over(s: Startup, fields: Fields, unmet: u32, used: u32, last: Report) -> Step
 // A reading did not meet the step's wait, which fails at the last of its readings.
 fn unmet(s: Startup, fields: Fields) -> Stepped
     requires { ⌜ (s .unmet < 1000000) × (s .used ≤ 8000001) ⌝ }
-    ensures { λ r. ⌜ r ≡ cameTo (nextOf (s .config) (s .step)) s fields (cond (ltb (s .unmet + 1) 1000000) waiting missed) ⌝ }
+    ensures { λ r. ⌜ ((after : ℕ) → r ≡ cameTo after s fields (cond (ltb (s .unmet + 1) 1000000) waiting missed)) ⌝ }
 {
     let config = s.config;
     let step = s.step;
@@ -274,27 +273,27 @@ fn unmet(s: Startup, fields: Fields) -> Stepped
     over(s, fields, unmet, used, last)
 }
 
-fn waited(s: Startup, fields: Fields, met: bool) -> Stepped
+fn waited(after: u8, s: Startup, fields: Fields, met: bool) -> Stepped
     requires { ⌜ s .used ≤ 8000001 ⌝ }
-    ensures { λ r. ⌜ r ≡ cameTo (nextOf (s .config) (s .step)) s fields (waitedOf 1000000 (s .unmet) met) ⌝ }
+    ensures { λ r. ⌜ r ≡ cameTo after s fields (waitedOf 1000000 (s .unmet) met) ⌝ }
 {
     if READINGS <= s.unmet {
         return handed_back(s);
     }
     if met {
-        return onward(s, fields, s.used + 1);
+        return onward(after, s, fields, s.used + 1);
     }
     unmet(s, fields)
 }
 
-fn read_back(s: Startup, fields: Fields, right: bool) -> Stepped
+fn read_back(after: u8, s: Startup, fields: Fields, right: bool) -> Stepped
     requires { ⌜ s .used ≤ 8000001 ⌝ }
-    ensures { λ r. ⌜ r ≡ cameTo (nextOf (s .config) (s .step)) s fields (cond right met misread) ⌝ }
+    ensures { λ r. ⌜ r ≡ cameTo after s fields (cond right met misread) ⌝ }
 {
     let step = s.step;
     let used = s.used + 1;
     if right {
-        return onward(s, fields, used);
+        return onward(after, s, fields, used);
     }
     let last = Report::Failed {
         number: answer::FLASH_MODE_DIFFERS,
@@ -330,10 +329,16 @@ fn work(s: Startup, promised: Clocks, reading: Reading) -> Stepped
     let config = s.config;
     let fields = s.fields;
     let seen = seen_of(reading);
+    let after = next(config, s.step);
     match perform(config, promised, s.step, fields, seen) {
-        Work::Wrote(written) => onward(s, written, s.used),
-        Work::Waits(met) => waited(s, with_seen(fields, seen), met),
-        Work::Reads(mode) => read_back(s, with_seen(fields, seen), reading.sckmod % 4 == mode),
+        Work::Wrote(written) => onward(after, s, written, s.used),
+        Work::Waits(met) => waited(after, s, with_seen(fields, seen), met),
+        Work::Reads(mode) => read_back(
+            after,
+            s,
+            with_seen(fields, seen),
+            reading.sckmod % 4 == mode,
+        ),
         Work::Compares(same) => compare(s, same),
         Work::NotListed => handed_back(s),
     }

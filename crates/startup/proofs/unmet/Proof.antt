@@ -6,5 +6,5 @@ use Rattle.startup.proofs.unmet.Tie as tie
 pub unmet-spec : {M : Type 1} → statement M
 unmet-spec =
     tie.close
-    (tie.spec (search needs) (search needs) (λ c. rw (lt-ltb _ _ (c .if1 .taken))) (search needs)
-    (λ c. rw (le-ltb _ _ (c .before .if1 .left)) (c .over .ensures)))
+    (tie.spec (search needs) (search needs) (λ c after. rw (lt-ltb _ _ (c .if1 .taken))) (search needs)
+    (λ c after. rw (le-ltb _ _ (c .before .if1 .left)) (c .over .ensures)))
