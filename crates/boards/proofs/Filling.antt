@@ -1,16 +1,15 @@
 -- Runs of bytes stored one behind another: what is still to be stored, from turn to turn of a loop. Assumes nothing.
 use Prim.Native.Nat.{ℕ, suc, _+_, _-_, _*_, _/_, _%_, _<_, _≤_}
 use mathlib.Core.Path.{_≡_, sym, ap, _∙_}
-use mathlib.Core.List.{List, [], _∷_, _++_, append-nil}
-use native.Mathlib.Nat.{add-zero, zero-add, suc-add, add-suc}
+use mathlib.Core.List.{List, append-nil}
+use native.Mathlib.Nat.{zero-add}
 use native.Mathlib.Omega.{arith}
-use lib.ListN.{length, set, getD, take, drop}
+use lib.ListN.{length, take, drop}
 use borrow.Author.Tests.{ne-eqb}
-use lib.Seq.{sets, sets-eq, drop-cons, drop-drop, drop-length}
+use lib.Seq.{sets, sets-eq, drop-drop, drop-length}
 use Rattle.answer.specs.Answer.{Answer}
 use Rattle.v4x7.specs.declared.ClockRecord.{ClockRecord}
 use Rattle.profile.specs.Profile.{checkProfile}
-use Rattle.layout.specs.Layout.{unpack, bytes}
 use Rattle.layout.proofs.Filling.{sets-append}
 use Rattle.layout.proofs.Writing.{short, refused, written-to}
 use Rattle.answer.specs.declared.Outcome.the-variants.{Done, Refused}

@@ -1,12 +1,11 @@
 -- The image's eight bytes are those of its two numbers. Assumes nothing.
 use Prim.Native.Nat.{ℕ, _+_, _*_, _/_, _%_, _≤_, _<_}
-use mathlib.Core.Path.{_≡_, refl, sym, ap, _∙_}
+use mathlib.Core.Path.{_≡_, sym, ap, _∙_}
 use mathlib.Core.Bool.{Bool, true, false}
 use mathlib.Core.List.{List, [], _∷_, _++_}
 use native.Mathlib.Omega.{arith}
 use lib.ListN.{length, drop}
 use lib.Seq.{sets, sets-eq}
-use Rattle.answer.specs.Answer.{gives}
 use Rattle.answer.specs.declared.Outcome.the-variants.{Done}
 use Rattle.layout.specs.Bits.{bit}
 use Rattle.layout.specs.Layout.{pack, unpack, bytes, packed}

@@ -1,6 +1,6 @@
 -- `capi_give::copy` meets its contract. The loop's invariant is `Copied`, its measure what is left of the words. Assumes nothing.
 use Prim.Native.Nat.{_-_}
-use borrow.Author.Needs.{needs}
+use native.Mathlib.Omega.{arith}
 use lib.ListN.{length}
 use Rattle.capi_give.proofs.Copying.{Copied, none-yet, one-more, all-of-them}
 use Rattle.capi_give.proofs.copy.Statement.{statement}
@@ -24,5 +24,5 @@ returns c = all-of-them _ _ _ _ (c .before .before .pre) (c .before .loop .inv) 
 pub copy-spec : {M : Type 1} → statement M
 copy-spec =
     tie.close
-    (tie.spec Inv-loop μ-loop loop-holds (search needs) (search needs) (search needs) (search needs) (search needs) (search needs) loop-again
-    (search needs) returns)
+    (tie.spec Inv-loop μ-loop loop-holds (λ c. omega arith) (λ c. omega arith) (λ c. omega arith) (λ c. omega arith) (λ c. omega arith) (λ c. omega arith) loop-again
+    (λ c. omega arith) returns)

@@ -1,6 +1,6 @@
 -- `capi_give::copy_bytes` meets its contract. The loop's invariant is `Copied`, its measure what is left of the bytes. Assumes nothing.
 use Prim.Native.Nat.{_-_}
-use borrow.Author.Needs.{needs}
+use native.Mathlib.Omega.{arith}
 use lib.ListN.{length}
 use Rattle.capi_give.proofs.Copying.{Copied, none-yet, one-more, all-of-them}
 use Rattle.capi_give.proofs.copy_bytes.Statement.{statement}
@@ -24,4 +24,4 @@ returns c = all-of-them _ _ _ _ (c .before .before .pre) (c .before .loop .inv) 
 pub copy-bytes-spec : {M : Type 1} → statement M
 copy-bytes-spec =
     tie.close
-    (tie.spec Inv-loop μ-loop loop-holds (search needs) (search needs) (search needs) (search needs) loop-again (search needs) returns)
+    (tie.spec Inv-loop μ-loop loop-holds (λ c. omega arith) (λ c. omega arith) (λ c. omega arith) (λ c. omega arith) loop-again (λ c. omega arith) returns)

@@ -1,5 +1,5 @@
 use mathlib.Core.Path.{refl}
-use borrow.Author.Needs.{needs}
+use native.Mathlib.Omega.{arith}
 use Rattle.capi_give.specs.Giving.{short, refused, passed-on}
 use Rattle.capi_give.proofs.give_six.Statement.{statement}
 use Rattle.capi_give.proofs.give_six.Tie as tie
@@ -13,6 +13,6 @@ returns-3 c =
 pub give-six-spec : {M : Type 1} → statement M
 give-six-spec =
     tie.close
-    (tie.spec (λ c. short _ _ _ (c .if1 .taken)) (search needs) (search needs) (search needs) (search needs)
+    (tie.spec (λ c. short _ _ _ (c .if1 .taken)) (λ c. omega arith) (λ c. omega arith) (λ c. omega arith) (λ c. omega arith)
     (λ c. refused _ _ _ _ (c .before .before .before .if1 .left) (rw (c .before .buses .given .1) refl))
-    (search needs) returns-3)
+    (λ c. omega arith) returns-3)

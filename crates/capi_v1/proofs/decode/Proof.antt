@@ -11,7 +11,7 @@ returns-2 : tie.Need-returns-2
 unfolding decodeRead
 returns-2 c =
     let at-if1 = c .before .before .before .before in
-    simp (
+    rw (
       sym (at-if1 .before .is-fields .ensures .0),
       at-if1 .if1 .left,
       sym (c .before .before .before .chip .ensures),
@@ -24,5 +24,5 @@ pub decode-spec : {M : Type 1} → statement M
 unfolding decodeRead
 decode-spec =
     tie.close
-    (tie.spec (search needs) (λ c. simp (sym (c .before .is-fields .ensures .0), c .if1 .taken)) (search needs)
+    (tie.spec (search needs) (λ c. rw (sym (c .before .is-fields .ensures .0), c .if1 .taken)) (search needs)
     (λ c κs. c .before .before .is-fields .ensures .1 (not-false _ (neither (not (c .before .before .is-fields .result)) _ (c .before .if1 .left) .0))) (search needs) (search needs) returns-2)

@@ -19,7 +19,7 @@ returns-2 : tie.Need-returns-2
 unfolding initRead
 returns-2 c =
     let at-if1 = c .before .before .before .before in
-    simp (
+    rw (
       sym (at-if1 .before .before .is-config .ensures .0),
       sym (at-if1 .before .is-fields .ensures .0),
       at-if1 .if1 .left,
@@ -34,6 +34,6 @@ unfolding initRead
 init-fields-spec =
     tie.close
     (tie.spec (search needs) (search needs)
-    (λ c. simp (sym (c .before .before .is-config .ensures .0), sym (c .before .is-fields .ensures .0), c .if1 .taken)) (search needs)
+    (λ c. rw (sym (c .before .before .is-config .ensures .0), sym (c .before .is-fields .ensures .0), c .if1 .taken)) (search needs)
     (λ c κs. c .before .before .before .is-config .ensures .1 (not-false _ (records (c .before) .0)))
     (λ c κs. c .before .before .before .is-fields .ensures .1 (not-false _ (records (c .before .before) .1))) (search needs) returns-2)

@@ -1,5 +1,5 @@
 use borrow.Author.Tests.{eq-eqb, ne-eqb}
-use borrow.Author.Needs.{needs}
+use native.Mathlib.Omega.{arith}
 use Rattle.answer.specs.Tools.{false-true}
 use Rattle.capi_v1.specs.Calls.{configAllowed}
 use Rattle.capi_v1.proofs.is_config.Statement.{statement}
@@ -16,5 +16,5 @@ returns-2 c =
 pub is-config-spec : {M : Type 1} → statement M
 is-config-spec =
     tie.close
-    (tie.spec (λ c. (rw (ne-eqb _ _ (c .if1 .taken)), λ e. false-true e)) (search needs) (search needs) (search needs) (search needs) (search needs) (search needs) (search needs) (search needs)
-    (search needs) (search needs) returns-2)
+    (tie.spec (λ c. (rw (ne-eqb _ _ (c .if1 .taken)), λ e. false-true e)) (λ c. omega arith) (λ c. omega arith) (λ c. omega arith) (λ c. omega arith) (λ c. omega arith) (λ c. omega arith) (λ c. omega arith) (λ c. omega arith)
+    (λ c. omega arith) (λ c. omega arith) returns-2)

@@ -9,12 +9,12 @@ returns-2 : tie.Need-returns-2
 unfolding decodeRead
 returns-2 c =
     let at-if1 = c .before .before .before in
-    simp (sym (at-if1 .before .is-fields .ensures .0), at-if1 .if1 .left, sym (c .before .before .fields-in .ensures), sym (c .before .decoder-hse .ensures))
+    rw (sym (at-if1 .before .is-fields .ensures .0), at-if1 .if1 .left, sym (c .before .before .fields-in .ensures), sym (c .before .decoder-hse .ensures))
     (c .decode .ensures)
 
 pub decode-spec : {M : Type 1} → statement M
 unfolding decodeRead
 decode-spec =
     tie.close
-    (tie.spec (search needs) (λ c. simp (sym (c .before .is-fields .ensures .0), c .if1 .taken))
+    (tie.spec (search needs) (λ c. rw (sym (c .before .is-fields .ensures .0), c .if1 .taken))
     (λ c κs. c .before .is-fields .ensures .1 (not-false _ (c .if1 .left))) (search needs) (search needs) returns-2)

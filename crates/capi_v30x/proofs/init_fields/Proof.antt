@@ -11,7 +11,7 @@ returns-2 : tie.Need-returns-2
 unfolding initRead
 returns-2 c =
     let at-if1 = c .before .before .before in
-    simp (
+    rw (
       sym (at-if1 .before .before .is-config .ensures .0),
       sym (at-if1 .before .is-fields .ensures .0),
       at-if1 .if1 .left,
@@ -25,6 +25,6 @@ unfolding initRead
 init-fields-spec =
     tie.close
     (tie.spec (search needs) (search needs)
-    (λ c. simp (sym (c .before .before .is-config .ensures .0), sym (c .before .is-fields .ensures .0), c .if1 .taken))
+    (λ c. rw (sym (c .before .before .is-config .ensures .0), sym (c .before .is-fields .ensures .0), c .if1 .taken))
     (λ c κs. c .before .before .is-config .ensures .1 (not-false _ (neither (not (c .before .before .is-config .result)) _ (c .if1 .left) .0)))
     (λ c κs. c .before .before .is-fields .ensures .1 (not-false _ (neither (not (c .before .before .before .is-config .result)) _ (c .before .if1 .left) .1))) (search needs) returns-2)

@@ -5,7 +5,6 @@ use native.Mathlib.Omega.{arith}
 use lib.Pow.{pow-pos, pow-mono}
 use Rattle.layout.specs.Bits.{bitsAt}
 use Rattle.layout.proofs.Reading.{bits-lt, bits-of-two}
-use borrow.Author.Needs.{needs}
 use Rattle.layout.proofs.code.Statement.{statement}
 use Rattle.layout.proofs.code.Tie as tie
 
@@ -41,5 +40,5 @@ returns c =
 pub code-spec : {M : Type 1} → statement M
 code-spec =
     tie.close
-    (tie.spec (search needs) (search needs) (search needs) (search needs) (search needs) (search needs) (search needs) (search needs) (search needs)
-    (search needs) (λ c. rw (c .two .ensures) (pow-pos _)) (search needs) (search needs) (λ c. rw (c .two2 .ensures) (pow-pos _)) cast-result returns)
+    (tie.spec (λ c. omega arith) (λ c. omega arith) (λ c. omega arith) (λ c. omega arith) (λ c. omega arith) (λ c. omega arith) (λ c. omega arith) (λ c. omega arith) (λ c. omega arith)
+    (λ c. omega arith) (λ c. rw (c .two .ensures) (pow-pos _)) (λ c. omega arith) (λ c. omega arith) (λ c. rw (c .two2 .ensures) (pow-pos _)) cast-result returns)

@@ -5,10 +5,9 @@ use native.Mathlib.Numerals.{add-one}
 use native.Mathlib.Omega.{arith}
 use lib.ListN.{length, take, getD}
 use Rattle.layout.specs.Layout.{total}
-use Rattle.layout.specs.Bits.{bitsAt, upTo, narrowed, fieldAt}
+use Rattle.layout.specs.Bits.{bitsAt, upTo, narrowed}
 use Rattle.layout.proofs.Loading.{total-on, field-there, field-past}
 use Rattle.layout.proofs.Reading.{up-to-below, up-to-above}
-use borrow.Author.Needs.{needs}
 use Rattle.layout.proofs.field.Statement.{statement}
 use Rattle.layout.proofs.field.Tie as tie
 
@@ -52,8 +51,8 @@ returns-2 c =
 pub field-spec : {M : Type 1} → statement M
 field-spec =
     tie.close
-    (tie.spec Inv-loop μ-loop (search needs) returns (λ c. (omega arith, (refl, omega arith))) (λ c. omega (arith, there (c .before .before .before)))
-    (λ c. omega (arith, c .shared-slice-known3 .given (c .before .before .loop .i))) (search needs)
-    (λ c. omega (arith, there (c .before .before .before .before))) (search needs) (search needs) loop-again
+    (tie.spec Inv-loop μ-loop (λ c. omega arith) returns (λ c. (omega arith, (refl, omega arith))) (λ c. omega (arith, there (c .before .before .before)))
+    (λ c. omega (arith, c .shared-slice-known3 .given (c .before .before .loop .i))) (λ c. omega arith)
+    (λ c. omega (arith, there (c .before .before .before .before))) (λ c. omega arith) (λ c. omega arith) loop-again
     (λ c. omega (arith, there (c .before .before .before)))
-    (λ c. omega (arith, c .shared-slice-known4 .given (c .before .before .before .before .before .before .before .args .k))) (search needs) returns-2)
+    (λ c. omega (arith, c .shared-slice-known4 .given (c .before .before .before .before .before .before .before .args .k))) (λ c. omega arith) returns-2)

@@ -1,5 +1,5 @@
 -- `layout::first_bits` meets its contract. Assumes nothing.
-use Prim.Native.Nat.{_+_, _*_, _-_, _^_, _≤_}
+use Prim.Native.Nat.{_+_, _-_, _^_, _≤_}
 use native.Mathlib.Omega.{arith}
 use lib.Pow.{pow-mono, shl-lt}
 use Rattle.layout.proofs.Reading.{first-bits}

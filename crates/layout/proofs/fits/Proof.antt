@@ -11,7 +11,6 @@ use lib.Seq.{drop-length, take-length}
 use Rattle.answer.specs.Tools.{and-left}
 use Rattle.layout.specs.Layout.{total, fieldsFit, fieldFits, storable}
 use Rattle.layout.proofs.Laws.{fits-at, fits-fitting, fitting-length, total-next}
-use borrow.Author.Needs.{needs}
 use Rattle.layout.proofs.fits.Statement.{statement}
 use Rattle.layout.proofs.fits.Tie as tie
 
@@ -129,5 +128,5 @@ returns-3 c =
 pub fits-spec : {M : Type 1} → statement M
 fits-spec =
     tie.close
-    (tie.spec Inv-loop μ-loop returns loop-holds (search needs) (search needs) (search needs) returns-2 (search needs) add-count cast-size add-size
-    (search needs) (search needs) loop-again returns-3)
+    (tie.spec Inv-loop μ-loop returns loop-holds (λ c. omega arith) (λ c. omega arith) (λ c. omega arith) returns-2 (λ c. omega arith) add-count cast-size add-size
+    (λ c. omega arith) (λ c. omega arith) loop-again returns-3)

@@ -51,6 +51,6 @@ returns-2 c =
 pub gather-spec : {M : Type 1} → statement M
 gather-spec =
     tie.close
-    (tie.spec (search needs) mul-value (search needs) add-value (search needs) returns (search needs) (λ c. rw (c .two2 .ensures) (pow-pos _))
-    cast-out (search needs) (search needs)
+    (tie.spec (λ c. omega arith) mul-value (λ c. omega arith) add-value (λ c. omega arith) returns (λ c. omega arith) (λ c. rw (c .two2 .ensures) (pow-pos _))
+    cast-out (λ c. omega arith) (λ c. omega arith)
     (λ c. rw (c .two2 .ensures) (pow-pos _)) (search needs) returns-2)

@@ -18,10 +18,10 @@ returns c =
 pub put-number-spec : {M : Type 1} → statement M
 put-number-spec =
     tie.close
-    (tie.spec (search needs) (search needs) (search needs) (search needs) (search needs)
+    (tie.spec (λ c. omega arith) (λ c. omega arith) (λ c. omega arith) (λ c. omega arith) (λ c. omega arith)
     (λ c. simp length-set (omega arith))
-    (search needs) (search needs)
+    (λ c. omega arith) (λ c. omega arith)
     (λ c. simp length-set (omega arith))
-    (search needs) (search needs)
+    (λ c. omega arith) (λ c. omega arith)
     (λ c. simp length-set (omega arith))
     (search needs) returns)

@@ -14,7 +14,6 @@ use Rattle.layout.specs.declared.Pending.{Pending}
 use Rattle.layout.specs.Gathered.{Gathered, Fits}
 use Rattle.layout.specs.Stored.{Stored}
 use Rattle.layout.proofs.Laws.{fits-each, fits-fitting, fitting-length, total-next, total-take, pack-next, unpack-pack}
-use borrow.Author.Needs.{needs}
 use Rattle.layout.proofs.store.Statement.{statement}
 use Rattle.layout.proofs.store.Tie as tie
 
@@ -139,5 +138,5 @@ returns-2 c =
 pub store-spec : {M : Type 1} → statement M
 store-spec =
     tie.close
-    (tie.spec Inv-loop μ-loop (search needs) returns loop-holds (search needs) shared-slice-read-gather-2 gather-requires (search needs)
-    (search needs) loop-again (λ c. c .before .loop .inv .gathered .long) returns-2)
+    (tie.spec Inv-loop μ-loop (λ c. omega arith) returns loop-holds (λ c. omega arith) shared-slice-read-gather-2 gather-requires (λ c. omega arith)
+    (λ c. omega arith) loop-again (λ c. c .before .loop .inv .gathered .long) returns-2)

@@ -13,7 +13,7 @@ returns-2 c =
     let too-wide = c .before .before .before .before .before .too-wide in
     let if1 = c .before .before .before .before .if1 in
     let sysclk = c .before .before .before .sysclk in
-    simp (
+    rw (
       sym (too-wide .ensures),
       if1 .left,
       c .refusal .ensures,
@@ -30,7 +30,7 @@ returns-3 c =
     let at-sysclk = at-system .before .before in
     let at-if1 = at-sysclk .before in
     let at-too-wide = at-if1 .before in
-    simp (
+    rw (
       sym (at-too-wide .too-wide .ensures),
       at-if1 .if1 .left,
       told rateSays (at-sysclk .sysclk .ensures) (at-system .system .given .1),
@@ -48,7 +48,7 @@ returns-4 c =
     let at-sysclk = at-system .before .before in
     let at-if1 = at-sysclk .before in
     let at-too-wide = at-if1 .before in
-    simp (
+    rw (
       sym (at-too-wide .too-wide .ensures),
       at-if1 .if1 .left,
       told rateSays (at-sysclk .sysclk .ensures) (at-system .system .given .1),
@@ -62,6 +62,6 @@ unfolding configuredClocksOf
 configured-clocks-spec =
     tie.close
     (tie.spec (search needs)
-    (λ c. simp (sym (c .before .too-wide .ensures), c .if1 .taken))
+    (λ c. rw (sym (c .before .too-wide .ensures), c .if1 .taken))
     (search needs) (search needs) (search needs) (search needs) returns-2 (search needs) (search needs) (search needs) (search needs)
     (search needs) returns-3 returns-4)

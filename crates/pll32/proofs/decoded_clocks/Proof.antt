@@ -9,7 +9,7 @@ use Rattle.pll32.proofs.decoded_clocks.Tie as tie
 returns-2 : tie.Need-returns-2
 unfolding decodedClocksOf
 returns-2 c =
-    simp (
+    rw (
       sym (c .before .before .before .before .before .before .wide-setting .ensures),
       sym (c .before .before .before .before .before .too-wide .ensures),
       c .before .before .before .before .if1 .left,
@@ -21,7 +21,7 @@ returns-2 c =
 returns-3 : tie.Need-returns-3
 unfolding decodedClocksOf
 returns-3 c =
-    simp (
+    rw (
       sym (c .before .before .before .before .before .before .before .before .wide-setting .ensures),
       sym (c .before .before .before .before .before .before .before .too-wide .ensures),
       c .before .before .before .before .before .before .if1 .left,
@@ -35,5 +35,5 @@ unfolding decodedClocksOf
 decoded-clocks-spec =
     tie.close
     (tie.spec (search needs) (search needs)
-    (λ c. simp (sym (c .before .before .wide-setting .ensures), sym (c .before .too-wide .ensures), c .if1 .taken))
+    (λ c. rw (sym (c .before .before .wide-setting .ensures), sym (c .before .too-wide .ensures), c .if1 .taken))
     (search needs) (search needs) (search needs) (search needs) returns-2 (search needs) (search needs) returns-3)

@@ -15,7 +15,7 @@ mul-product c =
 returns-2 : tie.Need-returns-2
 unfolding multipliedOf
 returns-2 c =
-    simp (
+    rw (
       sym (c .before .before .before .before .before .before .factor-of .ensures),
       le-ltb _ _ (c .before .before .before .before .if1 .left),
       sym (c .before .before .halved .ensures),
@@ -27,7 +27,7 @@ returns-2 c =
 returns-3 : tie.Need-returns-3
 unfolding multipliedOf
 returns-3 c =
-    simp (
+    rw (
       sym (c .before .before .before .before .before .factor-of .ensures),
       le-ltb _ _ (c .before .before .before .if1 .left),
       sym (c .before .halved .ensures),
@@ -40,5 +40,5 @@ unfolding multipliedOf
 multiplied-spec =
     tie.close
     (tie.spec (search needs) (search needs) (search needs) mul-product
-    (λ c. simp (sym (c .before .before .factor-of .ensures), lt-ltb _ _ (c .if1 .taken)))
+    (λ c. rw (sym (c .before .before .factor-of .ensures), lt-ltb _ _ (c .if1 .taken)))
     (search needs) (search needs) (search needs) (search needs) returns-2 returns-3)

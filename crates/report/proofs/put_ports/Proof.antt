@@ -36,5 +36,5 @@ returns c = ended (c .before .loop .inv) (c .loop-test .left)
 pub put-ports-spec : {M : Type 1} → statement M
 put-ports-spec =
     tie.close
-    (tie.spec Inv-loop μ-loop loop-holds (λ c. c .loop .inv .within) (search needs) (search needs) (search needs) (search needs) (search needs) (search needs) (search needs)
-    (search needs) (search needs) (search needs) (search needs) (search needs) (search needs) (search needs) loop-again (λ c. c .before .loop .inv .put .size) returns)
+    (tie.spec Inv-loop μ-loop loop-holds (λ c. c .loop .inv .within) (λ c. omega arith) (λ c. omega arith) (λ c. omega arith) (λ c. omega arith) (λ c. omega arith) (λ c. omega arith) (λ c. omega arith)
+    (λ c. omega arith) (λ c. omega arith) (λ c. omega arith) (λ c. omega arith) (λ c. omega arith) (λ c. omega arith) (λ c. omega arith) loop-again (λ c. c .before .loop .inv .put .size) returns)

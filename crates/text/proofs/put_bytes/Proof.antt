@@ -31,7 +31,7 @@ returns-3 c =
 pub put-bytes-spec : {M : Type 1} → statement M
 put-bytes-spec =
     tie.close
-    (tie.spec (search needs) (search needs) (λ c. search needs) (search needs) returns-2
+    (tie.spec (λ c. omega arith) (λ c. omega arith) (λ c. search needs) (λ c. omega arith) returns-2
     (λ c κs. room (c .before))
     (λ c. let h = room (c .before .before .before .before) in omega arith)
-    (search needs) returns-3)
+    (λ c. omega arith) returns-3)

@@ -75,5 +75,5 @@ returns c = ended (c .before .before .loop .inv) (c .digit2 .result) (c .digit2 
 pub spell-spec : {M : Type 1} → statement M
 spell-spec =
     tie.close
-    (tie.spec Inv-loop μ-loop loop-holds (search needs) (search needs) sub-first (search needs) loop-again (search needs) (search needs) same-length
+    (tie.spec Inv-loop μ-loop loop-holds (λ c. omega arith) (λ c. omega arith) sub-first (λ c. omega arith) loop-again (λ c. omega arith) (λ c. omega arith) same-length
     returns)

@@ -16,7 +16,7 @@ from-divided : (c : tie.After-known-told2)
     let pclk = c .before .divisor .given .0 .1 .0 in
     busOf (args .family) (args .hclk) (args .code) ≡ gives (pclk, timerClock (args .family) (c .before .divisor .given .0 .0) (pclk .hz))
 unfolding busOf
-from-divided c = simp (told quotientSays (c .before .before .before .apb-quotient .ensures) (c .before .divisor .given .1))
+from-divided c = rw (told quotientSays (c .before .before .before .apb-quotient .ensures) (c .before .divisor .given .1))
 
 mul-tim : tie.Need-mul-tim
 mul-tim c =
@@ -32,20 +32,20 @@ returns-3 : tie.Need-returns-3
 unfolding timerClock
 returns-3 c =
     let at-if1 = c .before .before .before in
-    simp (from-divided (at-if1 .before), ne-eqb _ _ (at-if1 .if1 .left), sym (c .before .before .doubling .ensures), c .before .if2 .taken)
+    rw (from-divided (at-if1 .before), ne-eqb _ _ (at-if1 .if1 .left), sym (c .before .before .doubling .ensures), c .before .if2 .taken)
 
 returns-4 : tie.Need-returns-4
 unfolding timerClock
 returns-4 c =
     let at-if1 = c .before .before in
-    simp (from-divided (at-if1 .before), ne-eqb _ _ (at-if1 .if1 .left), sym (c .before .doubling .ensures), c .if2 .left)
+    rw (from-divided (at-if1 .before), ne-eqb _ _ (at-if1 .if1 .left), sym (c .before .doubling .ensures), c .if2 .left)
 
 pub apb-bus-spec : {M : Type 1} → statement M
 unfolding timerClock busOf
 apb-bus-spec =
     tie.close
     (tie.spec (search needs) (search needs) (search needs)
-    (λ c. simp (from-divided (c .before), eq-eqb _ _ (c .if1 .taken)))
+    (λ c. rw (from-divided (c .before), eq-eqb _ _ (c .if1 .taken)))
     (search needs) mul-tim
-    (λ c. simp (told quotientSays (c .before .before .before .apb-quotient .ensures) (c .before .n .given .1)))
+    (λ c. rw (told quotientSays (c .before .before .before .apb-quotient .ensures) (c .before .n .given .1)))
     returns-3 returns-4)

@@ -11,7 +11,7 @@ returns-2 : tie.Need-returns-2
 unfolding usbhsOf
 returns-2 c =
     let source-frequency = c .before .before .before .source-frequency in
-    simp (c .before .before .before .before .before .hspll .given .1, told rateSays (source-frequency .ensures) (c .before .n .given .1))
+    rw (c .before .before .before .before .before .hspll .given .1, told rateSays (source-frequency .ensures) (c .before .n .given .1))
 
 -- what the definition leaves to do where the reference is tested
 from-test : (c : tie.After-reference-allowed)
@@ -21,7 +21,7 @@ unfolding usbhsOf
 from-test c =
     let at-x = c .before .before .before in
     let at-from = at-x .before .before in
-    simp (
+    rw (
       at-from .before .before .hspll .given .1,
       told rateSays (at-from .source-frequency .ensures) (at-x .x .given .1),
       sym (c .before .by-one-more .ensures),
@@ -33,7 +33,7 @@ unfolding usbhsOf
 usbhs-spec =
     tie.close
     (tie.spec (search needs) (search needs) (search needs) (search needs) (search needs) (search needs) (search needs)
-    (λ c. simp (c .enum-told .given .1))
+    (λ c. rw (c .enum-told .given .1))
     returns-2
-    (λ c. simp (from-test (c .before), c .if1 .taken))
-    (λ c. simp (from-test (c .before), c .if1 .left)))
+    (λ c. rw (from-test (c .before), c .if1 .taken))
+    (λ c. rw (from-test (c .before), c .if1 .left)))

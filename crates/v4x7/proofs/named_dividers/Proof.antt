@@ -10,8 +10,8 @@ named-dividers-spec =
     (λ c.
     let at-apb1 = c .before .before in
     let at-ahb = at-apb1 .before .before in
-    simp (sym (at-ahb .named-ahb .ensures), at-apb1 .before .if1 .taken, sym (at-apb1 .named-apb .ensures), c .before .if2 .taken, c .named-apb2 .ensures))
+    rw (sym (at-ahb .named-ahb .ensures), at-apb1 .before .if1 .taken, sym (at-apb1 .named-apb .ensures), c .before .if2 .taken, c .named-apb2 .ensures))
     (λ c.
     let at-if1 = c .before .before in
-    simp (sym (at-if1 .before .named-ahb .ensures), at-if1 .if1 .taken, sym (c .before .named-apb .ensures), c .if2 .left))
-    (λ c. simp (sym (c .before .named-ahb .ensures), c .if1 .left)))
+    rw (sym (at-if1 .before .named-ahb .ensures), at-if1 .if1 .taken, sym (c .before .named-apb .ensures), c .if2 .left))
+    (λ c. rw (sym (c .before .named-ahb .ensures), c .if1 .left)))

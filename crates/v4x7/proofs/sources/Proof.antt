@@ -9,7 +9,7 @@ use Rattle.v4x7.proofs.sources.Tie as tie
 
 returns : tie.Need-returns
 unfolding sourcesOf
-returns c = simp (told outcomeSays (c .before .before .before .rng .ensures) (c .before .n .given .1))
+returns c = rw (told outcomeSays (c .before .before .before .rng .ensures) (c .before .n .given .1))
 
 enum-told : tie.Need-enum-told
 enum-told c = search needs
@@ -19,7 +19,7 @@ unfolding sourcesOf
 returns-2 c =
     let at-hse = c .before .before .before in
     let at-rng = at-hse .before .before .before in
-    simp (
+    rw (
       told outcomeSays (at-rng .rng .ensures) (at-hse .before .enum-told .given .1),
       sym (at-rng .before .hse-frequency .ensures),
       told outcomeSays (at-hse .hse-present .ensures) (c .before .n2 .given .1),
@@ -39,7 +39,7 @@ unfolding sourcesOf
 from-hse c =
     let at-hse = c .before .before in
     let at-rng = at-hse .before .before .before in
-    simp (
+    rw (
       told outcomeSays (at-rng .rng .ensures) (at-hse .before .enum-told .given .1),
       sym (at-rng .before .hse-frequency .ensures),
       told outcomeSays (at-hse .hse-present .ensures) (c .enum-told2 .given .1),
@@ -48,7 +48,7 @@ from-hse c =
 returns-3 : tie.Need-returns-3
 returns-3 c =
     let at-main-pll = c .before .before in
-    simp (
+    rw (
       from-hse (at-main-pll .before),
       at-main-pll .main-pll .ensures,
       told madeSays (at-main-pll .main-pll .ensures) (c .enum-told3 .given .1),
@@ -65,18 +65,18 @@ from-main : (c : tie.After-made)
       gives (c .made .given .0 .0))
 from-main c =
     let at-main-pll = c .before .before in
-    simp (from-hse (at-main-pll .before), told madeSays (at-main-pll .main-pll .ensures) (c .made .given .1))
+    rw (from-hse (at-main-pll .before), told madeSays (at-main-pll .main-pll .ensures) (c .made .given .1))
 
 returns-4 : tie.Need-returns-4
 returns-4 c =
     let at-eth = c .before .before .before in
-    simp (from-main (at-eth .before .before), told outcomeSays (at-eth .eth .ensures) (c .before .n3 .given .1))
+    rw (from-main (at-eth .before .before), told outcomeSays (at-eth .eth .ensures) (c .before .n3 .given .1))
 
 returns-5 : tie.Need-returns-5
 returns-5 c =
     let at-usbhs = c .before .before .before in
     let at-eth = at-usbhs .before .before .before in
-    simp (
+    rw (
       from-main (at-eth .before .before),
       told outcomeSays (at-eth .eth .ensures) (at-usbhs .before .enum-told4 .given .1),
       told outcomeSays (at-usbhs .usbhs .ensures) (c .before .n4 .given .1),
@@ -86,7 +86,7 @@ returns-6 : tie.Need-returns-6
 returns-6 c =
     let at-usbhs = c .before .before in
     let at-eth = at-usbhs .before .before .before in
-    simp (
+    rw (
       from-main (at-eth .before .before),
       told outcomeSays (at-eth .eth .ensures) (at-usbhs .before .enum-told4 .given .1),
       told outcomeSays (at-usbhs .usbhs .ensures) (c .enum-told5 .given .1),

@@ -10,14 +10,14 @@ use Rattle.v4x7.proofs.Config.clocks.Tie as tie
 
 returns : tie.Need-returns
 unfolding checkOf
-returns c = simp (sym (c .before .named-codes .ensures), c .if1 .taken)
+returns c = rw (sym (c .before .named-codes .ensures), c .if1 .taken)
 
 returns-2 : tie.Need-returns-2
 unfolding checkOf
 returns-2 c =
     let at-system = c .before .before .before in
     let at-if1 = at-system .before in
-    simp (
+    rw (
       sym (at-if1 .before .named-codes .ensures),
       at-if1 .if1 .left,
       c .refusal .ensures,
@@ -33,7 +33,7 @@ unfolding checkOf
 from-system c =
     let at-system = c .before .before in
     let at-if1 = at-system .before in
-    simp (
+    rw (
       sym (at-if1 .before .named-codes .ensures),
       at-if1 .if1 .left,
       told rateSays (at-system .system .ensures) (c .rate .given .1),
@@ -44,7 +44,7 @@ returns-3 c =
     let at-adc = c .before .before .before in
     let at-clocks = at-adc .before .before in
     let at-bus-clocks = at-clocks .before .before in
-    simp (
+    rw (
       from-system (at-bus-clocks .before .before),
       told busesSays (at-bus-clocks .bus-clocks .ensures) (at-clocks .clocks .given .1),
       c .refusal2 .ensures,
@@ -55,7 +55,7 @@ returns-3 c =
 returns-4 : tie.Need-returns-4
 returns-4 c =
     let at-bus-clocks = c .before .before .before in
-    simp (
+    rw (
       from-system (at-bus-clocks .before .before),
       told busesSays (at-bus-clocks .bus-clocks .ensures) (c .before .n .given .1),
     )
@@ -65,7 +65,7 @@ returns-5 c =
     let at-adc = c .before .before .before in
     let at-clocks = at-adc .before .before in
     let at-bus-clocks = at-clocks .before .before in
-    simp (
+    rw (
       from-system (at-bus-clocks .before .before),
       told busesSays (at-bus-clocks .bus-clocks .ensures) (at-clocks .clocks .given .1),
       told replySays (at-adc .adc .ensures) (c .before .sampled .given .1),
