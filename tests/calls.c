@@ -385,13 +385,6 @@ static uint32_t number_at(const uint8_t *place, int at)
     return (uint32_t)place[at] << 24 | (uint32_t)place[at + 1] << 16 | (uint32_t)place[at + 2] << 8 | place[at + 3];
 }
 
-static void put_number(uint8_t *place, int at, uint32_t number)
-{
-    int n;
-    for (n = 0; n < 4; n++)
-        place[at + n] = (uint8_t)(number >> (24 - 8 * n));
-}
-
 static void ticks_are(int line, const uint8_t *place, const uint32_t *eight, uint32_t longest)
 {
     int n;
@@ -407,6 +400,19 @@ static int wait_at(const uint8_t *place)
     for (n = 0; n < WAITS && waits[n].step != place[WONTABELI_PLACE_STEP]; n++) {
     }
     return n;
+}
+
+/* A refused start leaves every byte of a place; started anew, it has no ticks. */
+static void started_anew(uint8_t *place, size_t lent)
+{
+    static const uint32_t none[WAITS] = {0};
+    uint8_t last[WONTABELI_PLACE_SIZE];
+    memcpy(last, place, sizeof last);
+    IS(wontabeli_start(every_part, 10, image, 7, place, lent), WONTABELI_IMAGE_LENGTH_OR_FILLING);
+    IS(memcmp(place, last, sizeof last), 0);
+    IS(wontabeli_start(a11, 10, image, 8, place, lent), 0);
+    ticks_are(__LINE__, place, none, 0);
+    IS(number_at(place, WONTABELI_PLACE_FIRST_TICK), 0);
 }
 
 /* Every wait with so many unmet readings before the met one, and a counter that goes 7 on with each call: 7 ticks for each unmet reading. Step 10's first
@@ -443,16 +449,9 @@ static void full_boot(void)
     ticks_are(__LINE__, place, ticks, 350);
     /* 71 unmet readings, 8 met ones, and step 21's */
     IS(number_at(place, WONTABELI_PLACE_USED), 80);
+    started_anew(place, sizeof place);
     IS(place[72], 0xee);
     IS(place[73], 0xee);
-    /* started anew, the place has no ticks; a refused start leaves them */
-    memset(met, 0, sizeof met);
-    IS(wontabeli_start(every_part, 10, image, 7, place, sizeof place), WONTABELI_IMAGE_LENGTH_OR_FILLING);
-    ticks_are(__LINE__, place, ticks, 350);
-    IS(wontabeli_start(a11, 10, image, 8, place, sizeof place), 0);
-    ticks_are(__LINE__, place, met, 0);
-    IS(number_at(place, WONTABELI_PLACE_FIRST_TICK), 0);
-    IS(place[72], 0xee);
 }
 
 /* Step 2's readings at these ticks, the last of them met: how many ticks the wait took. */
@@ -554,8 +553,6 @@ static void uncounted(void)
     ticks_are(__LINE__, place, eight, 27);
 }
 
-/* ---- Many calls on any bytes ---- */
-
 static uint64_t state = 1;
 
 /* Numbers that look random, the same at every run. */
@@ -584,89 +581,6 @@ static void other_ticks(void)
         }
         IS(one[WONTABELI_PLACE_PHASE], WONTABELI_PHASE_RUNNING);
     }
-}
-
-/* What K5 says of a place's ticks after a call, from its bytes before, its tick, and, both taken from the call itself, the number that came back and whether
- * the reading met the wait. A wait without an unmet reading before has its first one now. Its difference is taken in 64 bits, so that nothing wraps here. */
-static void by_paper(const uint8_t *before_it, uint8_t *ticks, uint32_t tick, uint8_t number, int met)
-{
-    uint32_t first = number_at(before_it, 19) == 0 ? tick : number_at(before_it, 32), longest = 0;
-    int wait = wait_at(before_it), n;
-    memcpy(ticks, before_it + 32, 40);
-    if (before_it[27] != 0 || number != 0 || wait == WAITS) return;
-    if (!met) {
-        put_number(ticks, 0, first);
-        return;
-    }
-    put_number(ticks, 4 + 4 * wait, (uint32_t)((((uint64_t)1 << 32) + tick - first) % ((uint64_t)1 << 32)));
-    for (n = 0; n < WAITS; n++)
-        if (number_at(ticks, 4 + 4 * n) > longest) longest = number_at(ticks, 4 + 4 * n);
-    put_number(ticks, 36, longest);
-}
-
-/* Some place: a startup somewhere on its way with any ticks, or damaged, or no startup at all. */
-static void some_place(uint8_t *place)
-{
-    static const uint32_t counts[] = {0, 0, 0, 1, 2, 999998, 999999, 1000000, 8000000, 8000001, 8000002};
-    static const uint8_t phases[] = {0, 0, 0, 0, 0, 0, 0, 0, 1, 21, 22, 23, 2, 7};
-    int n;
-    for (n = 0; n < WONTABELI_PLACE_SIZE + 2; n++)
-        place[n] = (uint8_t)any();
-    if (below(8) == 0) return;
-    memcpy(place, below(2) ? every_part : a11, 10);
-    if (below(16) == 0) place[below(10)] ^= (uint8_t)(1 << below(8));
-    if (below(16) != 0) place[17] &= 0xe0;
-    place[18] = (uint8_t)(below(3) ? waits[below(WAITS)].step : below(30));
-    put_number(place, 19, counts[below(7 + below(2))]);
-    put_number(place, 23, counts[below(sizeof counts / sizeof *counts)]);
-    place[27] = phases[below(sizeof phases)];
-}
-
-/* Any places and calls: the ticks are K5's; a refused call leaves every byte, and so does one of a startup that is over; the bytes behind the place stay. */
-static void at_random(void)
-{
-    int rounds, used = 0, met_ones = 0, failed = 0, kept = 0, ended = 0;
-    for (rounds = 0; rounds < 100000; rounds++) {
-        uint8_t place[WONTABELI_PLACE_SIZE + 2], old[WONTABELI_PLACE_SIZE + 2], other[WONTABELI_PLACE_SIZE], ticks[40], number;
-        uint16_t reading = (uint16_t)(below(4) ? any() : below(2) ? WONTABELI_HSIRDY : 0);
-        uint32_t tick = below(4) ? any() : below(3) - 1u;
-        size_t lent = WONTABELI_PLACE_SIZE + below(3);
-        int n, met;
-        some_place(place);
-        if (below(3) == 0) tick = number_at(place, 32) + below(3) - 1u;
-        if (below(64) == 0) lent = below(WONTABELI_PLACE_SIZE);
-        memcpy(old, place, sizeof old);
-        number = wontabeli_step(place, lent, reading, tick);
-        if (lent < WONTABELI_PLACE_SIZE) IS(number, WONTABELI_OUTPUT_TOO_SHORT);
-        if (number != 21 && number != 22 && (number != 0 || old[27] != 0)) {
-            IS(memcmp(place, old, sizeof old), 0);
-            kept++;
-            continue;
-        }
-        if (old[27] != 0) {
-            IS(number, old[27]);
-            IS(memcmp(place, old, sizeof old), 0);
-            ended++;
-            continue;
-        }
-        met = place[WONTABELI_PLACE_REPORT] == WONTABELI_REPORT_WORKED;
-        by_paper(old, ticks, tick, number, met);
-        IS(memcmp(place + 32, ticks, sizeof ticks), 0);
-        IS(memcmp(place, old, 10), 0);
-        IS(place[27], number == 0 ? (place[28] == WONTABELI_REPORT_RUNNING) : number);
-        IS(place[72] == old[72] && place[73] == old[73], 1);
-        /* other ticks, in the place and handed in: the same number, and the same bytes 0 to 31 */
-        memcpy(other, old, sizeof other);
-        for (n = 32; n < WONTABELI_PLACE_SIZE; n++)
-            other[n] = (uint8_t)any();
-        IS(wontabeli_step(other, sizeof other, reading, any()), number);
-        IS(memcmp(other, place, 32), 0);
-        used += wait_at(old) < WAITS;
-        met_ones += wait_at(old) < WAITS && met;
-        failed += number != 0;
-    }
-    /* all kinds came up */
-    IS(used > 10000 && met_ones > 5000 && failed > 1000 && kept > 10000 && ended > 5000, 1);
 }
 
 static void v1(void)
@@ -953,7 +867,6 @@ int main(void)
     failed_wait();
     uncounted();
     other_ticks();
-    at_random();
     v1();
     v1_codes();
     v30x();

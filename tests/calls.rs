@@ -248,7 +248,7 @@ fn odd_ticks() {
 }
 
 // A chip whose flash takes SCKMOD only while it is unlocked: by the keys in their order, until LOCK is written.
-// The main PLL is ready at the third reading since it is on. The counter is half of the readings, and begins at its end.
+// The main PLL is ready at the third reading since it is on. The counter is half of the readings, and begins 6 before its end.
 struct Locked {
     fields: [u8; IMAGE_FIELDS],
     sckmod: u8,

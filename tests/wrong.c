@@ -1,5 +1,5 @@
-/* The library with one mistake, the one whose number MISTAKE has: mistakes that a definition and its code can make together. Linked with tests/calls.c, which
- * must see each, by `-Wl,--wrap` for every call below (examples/run). With MISTAKE 0 it makes none. */
+/* The library with one mistake, the one whose number MISTAKE has: mistakes that a definition and its code can make together. Linked with tests/calls.c and
+ * with tests/place.c, one of which must see each, by `-Wl,--wrap` for every call below (examples/run). With MISTAKE 0 it makes none. */
 #include <stdlib.h>
 #include <string.h>
 #include "wontabeli.h"
@@ -133,6 +133,78 @@ static uint8_t wrong_place(uint8_t *place, const uint8_t *before, uint8_t number
     return number;
 }
 
+/* Bits of an image's byte as they were. */
+static void kept(uint8_t *place, const uint8_t *before, int byte, uint8_t bits)
+{
+    byte += WONTABELI_PLACE_IMAGE;
+    place[byte] = (uint8_t)((place[byte] & ~bits) | (before[byte] & bits));
+}
+
+/* A step is worked: mistakes in what it writes. */
+static void wrong_writes(uint8_t *place, const uint8_t *before)
+{
+    uint8_t step = before[WONTABELI_PLACE_STEP], *image = place + WONTABELI_PLACE_IMAGE;
+    uint32_t clocks[WONTABELI_CHECK_WORDS];
+    /* 60: HSEON not written; 61: SW; 62: LOCK and FLOCK; 63: the other SCKMOD; 64: SCKMOD 1 at 100 MHz already */
+    if (mistake(60) && step == 9) kept(place, before, 0, 0x20);
+    if (mistake(61) && step == 26) kept(place, before, 1, 0x03);
+    if (mistake(62) && step == 20) kept(place, before, 7, 0x60);
+    if (mistake(63) && step == 20) image[7] ^= 0x80;
+    if (mistake(64) && step == 20 && wontabeli_check(place, WONTABELI_PROFILE_SIZE, clocks, WONTABELI_CHECK_WORDS) == 0 &&
+        clocks[WONTABELI_HCLK] == 100000000)
+        image[7] |= 0x80;
+    /* 65: HSEBYP not written; 66: the gate left on; 67: CSSON left on; 68: the codes of 24 and 32 MHz exchanged */
+    if (mistake(65) && step == 8) kept(place, before, 0, 0x40);
+    if (mistake(66) && step == 5) kept(place, before, 5, 0x01);
+    if (mistake(67) && step == 6) kept(place, before, 0, 0x10);
+    if (mistake(68) && step == 13 && (image[4] & 0x01)) image[5] ^= 0x80;
+    /* 69: I2SPLLSRC cleared where the RNG has SYSCLK; 70: ADC_CLKDIV the divisor itself; 71: the gate's step not skipped with HSE as system clock */
+    if (mistake(69) && step == 22 && (before[7] & 0x01) == 0 && (before[8] & 0x80) == 0) image[6] &= (uint8_t)~0x40;
+    if (mistake(70) && step == 24) image[6] = (uint8_t)((image[6] & ~0x3e) | ((image[6] + 2) & 0x3e));
+    if (mistake(71) && place[WONTABELI_PLACE_STEP] == 26 && step < 25 && (before[4] >> 4 & 3) == 1) place[WONTABELI_PLACE_STEP] = 25;
+    /* 72: an unmet count kept where a wait after step 4 is met */
+    if (mistake(72) && step > 4 && ticks_of(step) != 0) memcpy(place + WONTABELI_PLACE_UNMET, before + WONTABELI_PLACE_UNMET, 4);
+}
+
+/* A call did a step's work or used a reading: mistakes in what it notes and reports. */
+static void wrong_notes(uint8_t *place, const uint8_t *before, uint16_t reading)
+{
+    uint8_t step = before[WONTABELI_PLACE_STEP], report = place[WONTABELI_PLACE_REPORT], *image = place + WONTABELI_PLACE_IMAGE;
+    int reads = step == 21 || ticks_of(step) != 0;
+    /* 73: a used reading's SCKMOD put into the image; 74: HSIRDY of a reading that is not used; 75: step 21's reading not put there */
+    if (mistake(73) && reads) image[7] = (uint8_t)((image[7] & 0x7f) | (reading & WONTABELI_SCKMOD ? 0x80 : 0));
+    if (mistake(74) && !reads) image[0] = (uint8_t)((image[0] & 0xfe) | (reading & WONTABELI_HSIRDY));
+    if (mistake(75) && step == 21) kept(place, before, 1, 0xfc);
+    /* 76: the step before named while a wait goes on; 77: byte 31 left as it was; 78: the unmet count cleared where the clocks run */
+    if (mistake(76) && report == WONTABELI_REPORT_WAITING) place[WONTABELI_PLACE_NAMED] = before[WONTABELI_PLACE_NAMED];
+    if (mistake(77)) place[31] = before[31];
+    if (mistake(78) && report == WONTABELI_REPORT_RUNNING) put_number(place, WONTABELI_PLACE_UNMET, 0);
+}
+
+/* Mistakes in which startups are answered 28. */
+static uint8_t wrong_28(uint8_t *place, const uint8_t *before, uint8_t number, uint16_t reading, uint32_t tick)
+{
+    uint32_t used = number_at(before, WONTABELI_PLACE_USED), clocks[WONTABELI_CHECK_WORDS];
+    int going = before[WONTABELI_PLACE_PHASE] == WONTABELI_PHASE_GOING, refused = number == WONTABELI_CODE_NOT_ALLOWED;
+    /* 79: 8,000,001 used readings are too many already; 80: 1,000,000 unmet ones too where the step has no wait */
+    if (going && number < WONTABELI_CODE_NOT_ALLOWED && ((mistake(79) && used == 8000001) ||
+        (mistake(80) && ticks_of(before[WONTABELI_PLACE_STEP]) == 0 && number_at(before, WONTABELI_PLACE_UNMET) > 999999))) {
+        memcpy(place, before, WONTABELI_PLACE_SIZE);
+        return WONTABELI_CODE_NOT_ALLOWED;
+    }
+    /* 81: no number of used readings is too many */
+    if (mistake(81) && going && refused && used > 8000001) {
+        put_number(place, WONTABELI_PLACE_USED, 0);
+        number = __real_wontabeli_step(place, WONTABELI_PLACE_SIZE, reading, tick);
+        put_number(place, WONTABELI_PLACE_USED, used + number_at(place, WONTABELI_PLACE_USED));
+    }
+    /* 82: a phase of 23 is one that no startup has; 83: the check's own number */
+    if (mistake(82) && number == WONTABELI_CLOCKS_DIFFER && !going) return WONTABELI_CODE_NOT_ALLOWED;
+    if (mistake(83) && going && refused && wontabeli_check(place, WONTABELI_PROFILE_SIZE, clocks, WONTABELI_CHECK_WORDS) != 0)
+        return wontabeli_check(place, WONTABELI_PROFILE_SIZE, clocks, WONTABELI_CHECK_WORDS);
+    return number;
+}
+
 uint8_t __wrap_wontabeli_step(uint8_t *place, size_t place_len, uint16_t reading, uint32_t tick)
 {
     static uint32_t first_call;
@@ -160,6 +232,11 @@ uint8_t __wrap_wontabeli_step(uint8_t *place, size_t place_len, uint16_t reading
         place[WONTABELI_PLACE_SIZE] = 0;
     if (number == 0 && phase == 0 && ticks_of(before[WONTABELI_PLACE_STEP]) != 0 && place[WONTABELI_PLACE_REPORT] == WONTABELI_REPORT_WORKED)
         wrong_ticks(place, before, tick, first_call);
+    if (number == 0 && phase == 0 && place[WONTABELI_PLACE_REPORT] == WONTABELI_REPORT_WORKED)
+        wrong_writes(place, before);
+    if ((number == 0 || number == WONTABELI_WAIT_FAILED || number == WONTABELI_FLASH_MODE_DIFFERS) && phase == 0)
+        wrong_notes(place, before, reading);
+    number = wrong_28(place, before, number, reading, tick);
     return wrong_place(place, before, number, tick);
 }
 

@@ -16,7 +16,7 @@ struct chip {
     uint32_t tick;
 };
 
-/* A part is ready at this reading since it is on. */
+/* The reading since a part is on at which it is ready; and the ticks of a reading. */
 enum { HSI_READY = 2, HSE_READY = 31, PLL_READY = 4, TICKS_A_READING = 100 };
 
 static int ready(int on, int *readings, int needed)

@@ -23,7 +23,12 @@ struct Simulated {
     tick: u32,
 }
 
-/// A part is ready at this reading since it is on.
+/// The reading since a part is on at which it is ready; and the ticks of a reading.
+const HSI_READY: u32 = 2;
+const HSE_READY: u32 = 31;
+const PLL_READY: u32 = 4;
+const TICKS_A_READING: u32 = 100;
+
 fn ready(on: u8, readings: &mut u32, needed: u32) -> bool {
     *readings = if on == 1 { *readings + 1 } else { 0 };
     *readings >= needed
@@ -42,11 +47,11 @@ impl Chip for Simulated {
     // What is on becomes ready, and the clock that was asked for is in use.
     fn read(&mut self) -> Reading {
         let f = read_image(&self.image).expect("the startup's own image");
-        self.tick = self.tick.wrapping_add(100);
+        self.tick = self.tick.wrapping_add(TICKS_A_READING);
         Reading {
-            hsirdy: ready(f[IMAGE_HSION], &mut self.hsi, 2),
-            hserdy: ready(f[IMAGE_HSEON], &mut self.hse, 31) && self.crystal,
-            pllrdy: ready(f[IMAGE_PLLON], &mut self.pll, 4),
+            hsirdy: ready(f[IMAGE_HSION], &mut self.hsi, HSI_READY),
+            hserdy: ready(f[IMAGE_HSEON], &mut self.hse, HSE_READY) && self.crystal,
+            pllrdy: ready(f[IMAGE_PLLON], &mut self.pll, PLL_READY),
             usbhs_pllrdy: f[IMAGE_USBHS_PLLON] == 1,
             eth_pllrdy: f[IMAGE_ETH_PLLON] == 1,
             sws: f[IMAGE_SW],

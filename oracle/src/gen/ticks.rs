@@ -65,7 +65,7 @@ pub fn waited(i: usize) -> Query {
     ticked(&config, &fields::any(&mut r), 60, counter, &script)
 }
 
-/// Each wait with its first reading at or before the counter's ends, and its met one behind them.
+/// Each wait with its first reading at the counter's end, at its middle, or at 0; its met one is up to three steps of the counter behind it.
 pub const ACROSS: usize = PARTS.len() * WAITS.len() * 5 * 3 * 3;
 pub fn across(i: usize) -> Query {
     let mut d = Digits(i);

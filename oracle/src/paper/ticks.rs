@@ -41,8 +41,8 @@ fn handed(steps: &[u8], first: u32, by: u32) -> Vec<Call> {
     calls
 }
 
-/// "For each met wait the ticks from that wait's first reading to the met one, the difference taken modulo 2^32": each call that worked a wait used a reading, and
-/// the met one is the last of them. None where it is skipped, or not met.
+/// "For each met wait the ticks from that wait's first reading to the met one, the difference taken modulo 2^32": each call that worked a wait used a
+/// reading, and the met one is the last of them. None where it is skipped, or not met.
 fn ticks(calls: &[Call], wait: u8, open: u8) -> Option<u32> {
     let readings: Vec<u32> = calls.iter().filter(|call| call.0 == wait).map(|call| call.1).collect();
     let (first, met) = (u64::from(*readings.first()?), u64::from(*readings.last()?));
