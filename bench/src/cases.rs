@@ -324,6 +324,17 @@ fn startups() -> Vec<Case> {
     ]
 }
 
+/// The call whose turn it is.
+pub const ONE_CALL: Half = Half {
+    run: |i| {
+        let (place, reading) = &i.turns[i.turn.get()];
+        step(place, *reading);
+        1
+    },
+    cost: Cost::Call("wontabeli_step"),
+    timed: false,
+};
+
 fn serials() -> Vec<Case> {
     vec![Case {
         name: "serial divisor",

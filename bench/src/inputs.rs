@@ -4,6 +4,7 @@ use crate::ours::{self, Place};
 use crate::record::{CONFIG, FIELDS};
 use crate::theirs;
 use hal_v4x7::Config;
+use std::cell::Cell;
 
 pub type Profile = [u8; 10];
 
@@ -116,6 +117,9 @@ pub struct Tray {
 
 pub struct Inputs {
     pub good: Vec<Good>,
+    /// Every call of their startups, and the one whose turn it is.
+    pub turns: Vec<Turn>,
+    pub turn: Cell<usize>,
     pub bad: Vec<Bad>,
     pub good_tray: Tray,
     pub bad_tray: Tray,
@@ -135,6 +139,24 @@ fn before(profile: &Profile, step: u8) -> Place {
     }
     assert!(number == 0, "the startup is refused by {}", number);
     place
+}
+
+/// A call of a startup: the place before it, and the reading.
+pub type Turn = (Place, u16);
+
+/// Every call of a profile's startup, with an unmet reading before each met one: its ready bits and SWS are not those of the chip.
+fn turns(profile: &Profile) -> Vec<Turn> {
+    let mut turns = Vec::new();
+    let mut place = ours::NO_PLACE;
+    let mut number = ours::start(profile, &mut place);
+    while number == 0 && place[ours::PHASE] == 0 {
+        let unmet = place[ours::REPORT] != ours::WAITING;
+        let reading = ours::reading(&place) ^ if unmet { ours::READY_AND_SWS } else { 0 };
+        turns.push((place, reading));
+        number = ours::step(&mut place, reading, turns.len() as u32);
+    }
+    assert!(number == 0, "the startup is refused by {}", number);
+    turns
 }
 
 /// A wait's place after its first reading, at tick 5, which is unmet.
@@ -195,6 +217,8 @@ pub fn inputs() -> Inputs {
     };
     Inputs {
         good: ACCEPTED.iter().map(|(name, profile)| good(name, *profile)).collect(),
+        turns: ACCEPTED.iter().flat_map(|(_, profile)| turns(profile)).collect(),
+        turn: Cell::new(0),
         bad: REFUSED.iter().map(bad).collect(),
         good_tray: tray(&ACCEPTED.map(|(_, profile)| profile)),
         bad_tray: tray(&REFUSED.map(|(_, profile, ..)| profile)),

@@ -33,12 +33,20 @@ pub type ImageFields = [u8; 34];
 pub const NONE: Checked = [0; 7];
 pub const NO_CLOCKS: Decoded = [0; 6];
 
-/// A place before anything is started in it; and where it has its image, its step, its phase and the ticks of the waits with the longest behind them.
+/// A place before anything is started in it; and where it has its image, its step, its phase, what the last call reports, and the ticks of the waits with
+/// the longest behind them.
 pub const NO_PLACE: Place = [0; 72];
 const IMAGE: usize = 10;
 pub const STEP: usize = 18;
-const PHASE: usize = 27;
+pub const PHASE: usize = 27;
+pub const REPORT: usize = 28;
 const TICKS: usize = 36;
+
+/// What a call reports whose reading didn't meet the wait.
+pub const WAITING: u8 = 1;
+
+/// The bits of a reading that are ready bits and SWS.
+pub const READY_AND_SWS: u16 = 0x7f;
 
 /// The reading of a chip whose HSI is ready, and nothing else.
 pub const HSI_READY: u16 = 1;

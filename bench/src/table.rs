@@ -1,7 +1,7 @@
 //! The table: a line for each case, in Markdown.
 
 use crate::callgrind::Counts;
-use crate::cases::{cases, measured, Case, Half};
+use crate::cases::{cases, measured, Case, Half, ONE_CALL};
 use crate::inputs::{Inputs, BOARDS};
 use std::time::Instant;
 
@@ -14,10 +14,14 @@ pub struct Line {
     nanoseconds: [Option<f64>; 2],
 }
 
-/// Every half of every case once, in the table's order.
+/// Every half of every case once, in the table's order; then every call of the startups by itself.
 pub fn calls(inputs: &Inputs) {
     for half in cases().iter().flat_map(halves) {
         measured(half.run, inputs);
+    }
+    for turn in 0..inputs.turns.len() {
+        inputs.turn.set(turn);
+        measured(ONE_CALL.run, inputs);
     }
 }
 
@@ -46,7 +50,21 @@ pub fn lines(counts: &str, inputs: &Inputs, timed: bool) -> Result<Vec<Line>, St
         }
         lines.push(line);
     }
+    lines.push(dearest(counts, file, inputs)?);
     Ok(lines)
+}
+
+/// The dearest call of all startups, from the files behind this one.
+fn dearest(counts: &str, file: usize, inputs: &Inputs) -> Result<Line, String> {
+    let mut most = 0;
+    for turn in 1..=inputs.turns.len() {
+        most = most.max(Counts::read(&format!("{}.{}", counts, file + turn))?.cost(&ONE_CALL.cost)?);
+    }
+    Ok(Line {
+        name: "startup, the dearest call",
+        instructions: [Some(most as f64), None],
+        nanoseconds: [None; 2],
+    })
 }
 
 /// Nanoseconds a call: the best of some passes of at least a millisecond.
@@ -102,11 +120,10 @@ const TRAYS: [(&str, &str); 2] = [
 /// What a board of a tray may take beside its read and check.
 const BESIDE: f64 = 100.0;
 /// What a call of the readers may take, and a call of a startup.
-const CALLS: [(&str, f64); 4] = [
+const CALLS: [(&str, f64); 3] = [
     ("32 bits at any place (fast)", 64.0),
     ("profile read alone", 350.0),
-    ("startup, a call that writes (step 23)", 1500.0),
-    ("startup, a call that waits (step 2, not ready)", 1500.0),
+    ("startup, the dearest call", 1500.0),
 ];
 
 /// Whether no line is above its limit: for each that has one a sentence, and a yes or no.
