@@ -91,7 +91,7 @@ uint8_t wontabeli_write_image(const uint8_t *fields, size_t fields_len, uint8_t 
  *   32..35  the tick of the first reading of the wait whose turn it is, where bytes 19 to 22 are not 0
  *   36..67  the ticks of the eight waits, steps 2, 4, 7, 10, 12, 15, 18 and 27, four bytes each
  *   68..71  the longest of them
- * A call doesn't look at bytes 28 to 31 and 68 to 71. PHASE_.. are values of byte 27 alone, REPORT_.. of byte 28 alone.
+ * A call never looks at bytes 28 to 31 and 68 to 71, and at bytes 19 to 22 only where the step is a wait. PHASE_.. are values of byte 27 alone, REPORT_.. of byte 28 alone.
  *
  * After each call that returns 0 the host writes to the chip, in this order:
  *   1. the image's fields that changed, but never the ready bits and SWS, which only the chip writes. Where byte 30 is 20: SCKMOD, LOCK and FLOCK
@@ -112,11 +112,12 @@ uint8_t wontabeli_start(const uint8_t *profile, size_t profile_len, const uint8_
  *   0        the place says how it went.
  *   21, 22   the startup is over: a wait failed, or the flash mode read back differs. The place holds the ended startup; byte 30 is the step.
  *   others   refused, and the place stays as it was: 32; 30 or 31 where the place's profile or image can't be read; 28 where byte 27 has none of its
- *            values or, in a startup that is not over, the check refuses the profile, the step is not one of the profile's, its wait's unmet readings pass
- *            999,999, or the used ones 8,000,001; 23 where the clocks differ after the switch, or byte 27 is 23, which no call leaves. A host that
+ *            values or, in a startup that is not over, the check refuses the profile, the step is not one of the profile's, it is a wait whose unmet
+ *            readings pass 999,999, or the used ones pass 8,000,001; 23 where the clocks differ after the switch, or byte 27 is 23, which no call leaves. A host that
  *            keeps the place's bytes as a call left them, and lends them all, sees none of these.
- * On a place that is over, a call changes no byte and returns the number of the end again: 0 where the clocks run, else 21 or 22. Other damage of a
- * place is not noticed: the startup is worked as it stands.
+ * On a place that is over, and whose profile and image can be read, a call changes no byte and returns the number of the end again: 0 where the clocks
+ * run, else 21 or 22. The clocks run where the number is 0 and byte 27 is PHASE_RUNNING. Other damage of a place is not noticed: the startup is worked as
+ * it stands.
  *
  * Ticks: a wait's number is the ticks from its first reading to the met one, modulo 2^32. So the counter may wrap; a wait longer than a full turn
  * of it shows the remainder only. The number is 0 before its wait is met, for good where the wait is skipped or fails, and where the first reading

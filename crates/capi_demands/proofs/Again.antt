@@ -21,9 +21,9 @@ use Rattle.startup.specs.declared.Report.the-variants.{Worked, Waiting, Running
 use Rattle.startup.specs.declared.Phase.{Phase}
 use Rattle.startup.specs.declared.Phase.the-variants.{Going, Over}
 use Rattle.startup.specs.declared.Startup.{Startup}
-use Rattle.ticks.specs.declared.Ticks.{Ticks}
 use Rattle.ticks.specs.declared.Ticked.{Ticked}
 use Rattle.capi_startup.specs.Kept.{phaseOf, tagOf, numberAt, standingOf, startupIn, ticksIn, ticksPart, keptOf, countsBytes, ticksBytes}
+use Rattle.capi_startup.proofs.Laying.{forty}
 use Rattle.capi_demands.specs.Place.{HeldPhase, Word, Storable, ReadsBack}
 use Rattle.capi_demands.proofs.Numbers.{word-back, ticks-back}
 
@@ -119,12 +119,8 @@ kept-of p i k rest t report ten c f forty same st =
     let g = image.inverse .read-write (s .fields) i f in
     rw (startup-again p i k rest s report ten eight c g (st .unmet) (st .used) (st .phase), ticks-part p i k rest s report ten eight forty, same)
 
-pub ticks-length : (t : Ticks) → length (ticksBytes t) ≡ 40
-unfolding ticksBytes
-ticks-length t = refl
-
 pub kept-again : ReadsBack
 kept-again p t report rest l c st s =
     ap keptOf (s .lent) ∙
-    kept-of p (s .image) (ticksBytes (t .ticks)) rest t report (read-length p (t .startup .config) c) c (s .imaged) (ticks-length (t .ticks))
+    kept-of p (s .image) (ticksBytes (t .ticks)) rest t report (read-length p (t .startup .config) c) c (s .imaged) (forty (t .ticks))
     (ticks-back (t .ticks) (st .first, st .waits)) st

@@ -26,8 +26,9 @@ use Rattle.ticks.specs.Ticks.{isOver}
 use Rattle.place.specs.Place.{leavesAsItWas, steppedIn}
 use Rattle.capi_startup.specs.Kept.{numberAt, standingOf, startupIn, ticksIn, ticksPart, keptOf, countsBytes, notedBytes}
 use Rattle.capi_startup.specs.Calls.{readingOf, callBytes, stepBytes}
+use Rattle.capi_startup.proofs.Laying.{noted-length}
 use Rattle.capi_demands.specs.Place.{Word, HeldPhase, Storable, CallReadsBack}
-use Rattle.capi_demands.proofs.Numbers.{byte-at, word-at, noted-in, noted-length}
+use Rattle.capi_demands.proofs.Numbers.{byte-at, word-at, noted-in}
 use Rattle.capi_demands.proofs.Again.{kept-of}
 use Rattle.capi_demands.proofs.Stays.{ticked-storable}
 use Rattle.capi_demands.proofs.Answers.{holds, found-known, call-fair, place-stays, noted, ticked-noted, place-moves}
@@ -140,7 +141,7 @@ module _ (l : List ℕ) (low : Bytes l) (long : 72 ≤ length l) (w tick : ℕ) 
       let c : readProfile (take 10 l) ≡ gives (stepOf s r .startup .config) =
       o .profile ∙ ap gives (ap (λ (s : Startup). s .config) (o .same) ∙ sym (call-fair s r (found-known l s found) .1)) in
       kept-of (take 10 l) i (notedBytes (ticksPart l) (s .unmet) tick report) rest (noted t r tick) report
-      (length-take-le 10 l (omega arith)) c e (noted-length (s .unmet) tick report (ticksPart l) forty)
+      (length-take-le 10 l (omega arith)) c e (noted-length (ticksPart l) (s .unmet) tick report forty)
       (noted-in (s .unmet) tick report (ticksPart l) (st .first, st .waits)) st
 
   abbrev Back : ℕ × List ℕ → Type 0

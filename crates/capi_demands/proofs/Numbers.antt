@@ -8,7 +8,7 @@ use native.Mathlib.Omega.{arith}
 use native.Mathlib.Nat.{mod-eq-of-lt}
 use borrow.Author.Tests.{ltb-true, lt-ltb}
 use lib.Dec.{eqb, ltb, lit<}
-use lib.ListN.{length, drop, getD, length-drop}
+use lib.ListN.{length, drop, getD}
 use Rattle.answer.specs.Tools.{by-cond, and-left, and-right, and-both}
 use Rattle.layout.specs.Layout.{unpack, bytes, num, fitting, Bytes}
 use Rattle.layout.specs.Numbers.{inFours}
@@ -129,9 +129,3 @@ module _ (unmet tick : ℕ) (report : Report) where
   unfolding notedBytes
   noted-bytes t small =
       ap (λ (k : Ticks). by (ticksBytes t) (meetsWait report) (next k)) (ticks-back t small) ∙ written-by t (meetsWait report) refl
-
-  pub noted-length : (b : List ℕ) → length b ≡ 40 → length (notedBytes b unmet tick report) ≡ 40
-  unfolding notedBytes ticksBytes
-  noted-length b h =
-      by-cond (λ (l : List ℕ). length l ≡ 40) (meetsWait report) (ticksBytes (next (ticksIn b))) (inFours (next (ticksIn b) .first ∷ []) ++ drop 4 b)
-      (λ e. refl) (λ e. omega (arith, length-drop 4 b))

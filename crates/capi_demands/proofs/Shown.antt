@@ -30,10 +30,11 @@ use Rattle.ticks.specs.Ticks.{longestOf, isOver, tickedOf}
 use Rattle.place.specs.Place.{leavesAsItWas, steppedIn}
 use Rattle.capi_startup.specs.Kept.{startupIn, ticksPart, keptOf, countsBytes, ticksBytes, notedBytes}
 use Rattle.capi_startup.specs.Calls.{readingOf, callBytes, stepBytes, Leaves}
+use Rattle.capi_startup.proofs.Laying as laying
 use Rattle.capi_demands.specs.Place.{Storable, Shows}
 use Rattle.capi_demands.specs.Hosted.{Tells}
 use Rattle.capi_demands.proofs.Numbers.{word-back, longest-small, noted-bytes}
-use Rattle.capi_demands.proofs.Again.{profile-part, ticks-part, rest-part, byte-behind, ticks-length, kept-again}
+use Rattle.capi_demands.proofs.Again.{profile-part, ticks-part, rest-part, byte-behind, kept-again}
 use Rattle.capi_demands.proofs.Answers.{place-by, place-stays, place-moves}
 
 -- ---- the last report that a place shows is the one that its startup is over by
@@ -117,7 +118,7 @@ module _ (p : List ℕ) (t : Ticked) (report : Report) (rest l : List ℕ) (ten 
   eight = image.inverse .size (s .fields) i (shows .imaged)
 
   forty : length k ≡ 40
-  forty = ticks-length (t .ticks)
+  forty = laying.forty (t .ticks)
 
   long : 72 ≤ length l
   unfolding countsBytes

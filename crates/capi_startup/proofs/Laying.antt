@@ -1,11 +1,12 @@
 -- What the calls lay over a place's parts: each byte of the counts and of the ticks, or the first tick alone. Assumes nothing.
-use Prim.Native.Nat.{ℕ, suc, _+_, _-_, _≤_}
+use Prim.Native.Nat.{ℕ, _+_, _≤_}
 use mathlib.Core.Path.{_≡_, refl, sym, ap, _∙_}
-use mathlib.Core.Bool.{Bool, true, false, cond}
+use mathlib.Core.Bool.{Bool, true, false}
 use mathlib.Core.List.{List, [], _∷_, _++_, append-nil}
 use native.Mathlib.Omega.{arith}
 use lib.ListN.{length, drop, set, length-drop, length-set}
 use lib.Seq.{sets, sets-eq, drop-length}
+use Rattle.answer.specs.Tools.{by-cond}
 use Rattle.layout.specs.Numbers.{inFours, withNumbers}
 use Rattle.layout.proofs.Filling.{sets-append, numbers-put}
 use Rattle.startup.specs.declared.Report.{Report}
@@ -53,31 +54,24 @@ ticks-laid t longest l m e q p =
     p ∙ numbers-put l ns 0 h ∙ all-set l (inFours ns) e
     ∙ ap (λ (n : ℕ). inFours (t .first ∷ (eightOf (t .waits) ++ (n ∷ [])))) q
 
-module _ (b : List ℕ) (unmet tick : ℕ) (report : Report) (e : length b ≡ 40) where
-  pub noted-length : length (notedBytes b unmet tick report) ≡ 40
+pub noted-length : (b : List ℕ) (unmet tick : ℕ) (report : Report) → length b ≡ 40 → length (notedBytes b unmet tick report) ≡ 40
+unfolding notedBytes
+noted-length b unmet tick report h =
+    let t = afterOf (ticksIn b) unmet tick report in
+    by-cond (λ (l : List ℕ). length l ≡ 40) (meetsWait report) (ticksBytes t) (inFours (t .first ∷ []) ++ drop 4 b)
+    (λ e. forty t) (λ e. omega (arith, length-drop 4 b))
+
+module _ (b : List ℕ) (unmet tick : ℕ) (report : Report) (e : length b ≡ 40) (u t : declared.Ticks) (p : u ≡ ticksIn b)
+    (q : t ≡ afterOf u unmet tick report) (met : Bool) (w : met ≡ meetsWait report) where
+  -- a wait is met: all ticks are written
+  pub all-noted : met ≡ true → ticksBytes t ≡ notedBytes b unmet tick report
   unfolding notedBytes
-  noted-length = by-wait (meetsWait report)
-    where
-      rest : length (drop 4 b) ≡ 36
-      rest = length-drop 4 b ∙ ap (λ (n : ℕ). n - 4) e
+  all-noted h = rw (sym w, h, q, p)
 
-      t : declared.Ticks
-      t = afterOf (ticksIn b) unmet tick report
-
-      by-wait : (met : Bool) → length (cond met (ticksBytes t) (inFours (t .first ∷ []) ++ drop 4 b)) ≡ 40
-      by-wait true = forty t
-      by-wait false = ap (λ (n : ℕ). suc (suc (suc (suc n)))) rest
-
-  module _ (u t : declared.Ticks) (p : u ≡ ticksIn b) (q : t ≡ afterOf u unmet tick report) (met : Bool) (w : met ≡ meetsWait report) where
-    -- a wait is met: all ticks are written
-    pub all-noted : met ≡ true → ticksBytes t ≡ notedBytes b unmet tick report
-    unfolding notedBytes
-    all-noted h = rw (sym w, h, q, p)
-
-    -- none is: the first one alone
-    pub first-noted : met ≡ false → withNumbers b 0 (t .first ∷ []) ≡ notedBytes b unmet tick report
-    unfolding notedBytes
-    first-noted h =
-        let four = inFours (t .first ∷ []) in
-        let r : 0 + 4 ≤ length b = omega arith in
-        numbers-put b (t .first ∷ []) 0 r ∙ sets-eq four b 0 r ∙ rw (sym w, h, q, p)
+  -- none is: the first one alone
+  pub first-noted : met ≡ false → withNumbers b 0 (t .first ∷ []) ≡ notedBytes b unmet tick report
+  unfolding notedBytes
+  first-noted h =
+      let four = inFours (t .first ∷ []) in
+      let r : 0 + 4 ≤ length b = omega arith in
+      numbers-put b (t .first ∷ []) 0 r ∙ sets-eq four b 0 r ∙ rw (sym w, h, q, p)

@@ -1,4 +1,4 @@
 mod Calling
-mod Laying
+pub mod Laying
 mod Placing
 mod Starting

@@ -3,3 +3,4 @@ pub mod Kept
 pub mod Reading
 pub mod Order
 pub mod Rows
+pub mod Laws

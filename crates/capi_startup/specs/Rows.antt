@@ -1,16 +1,18 @@
--- The bytes of a place behind its image, worked: every number at its own place.
+-- The bytes of a place, worked: every number at its own place.
 -- Assumes nothing.
 use Prim.Native.Nat.{ℕ}
 use mathlib.Core.Path.{_≡_, refl}
 use mathlib.Core.List.{List, [], _∷_, _++_}
+use lib.ListN.{replicate}
+use Rattle.answer.specs.Answer.{gives}
 use Rattle.v4x7.specs.declared.Config.{Config}
 use Rattle.image.specs.declared.Fields.{Fields}
 use Rattle.startup.specs.declared.Report.the-variants.{Worked, Waiting, Failed}
-use Rattle.startup.specs.declared.Startup.{Startup}
 use Rattle.startup.specs.Call.{going, ended}
 use Rattle.ticks.specs.declared.Ticks as declared
 use Rattle.ticks.specs.Ticks.{notedOf, metOf, afterOf, longestOf}
 use Rattle.capi_startup.specs.Kept.{ticksIn, countsBytes, ticksBytes, notedBytes}
+use Rattle.capi_startup.specs.Calls.{startRead, startBytes}
 
 -- At step 3, with 4 unmet readings of 0x01020305 used; and over by 21 at step 10.
 pub counts-worked : (c : Config) (f : Fields) →
@@ -38,3 +40,9 @@ pub ticks-worked : (ticksBytes some ≡ 0 ∷ 0 ∷ 0 ∷ 1 ∷ someWaits) × (t
     ∷ 0 ∷ 0 ∷ 0 ∷ 12 ∷ [])
 unfolding ticksBytes ticksIn notedBytes afterOf metOf notedOf longestOf
 ticks-worked = (refl, refl, refl, refl)
+
+-- A startup that was just started: behind profile and image step 1, and 53 zeros.
+pub start-worked : (p i : List ℕ) (c : Config) (f : Fields) → startRead p i ≡ gives (going c f 1 0 0) →
+    startBytes p i ≡ gives (p ++ (i ++ (1 ∷ replicate 53 0)))
+unfolding startBytes countsBytes ticksBytes longestOf
+start-worked p i c f e = rw e

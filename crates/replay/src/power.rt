@@ -59,8 +59,8 @@ pub fn over(startup: Startup) -> u8 {
 // One call with the script's next reading; a reading that the call ignored stays the next one.
 fn advanced(q: &[u8; 128], r: Run) -> Run {
     let before = r.startup;
-    let place = r.cursor;
-    let cursor = script::settled(q, place);
+    let earlier = r.cursor;
+    let cursor = script::settled(q, earlier);
     let stepped = before.step(script::reading_at(q, cursor.segment));
     let startup = stepped.startup;
     let report = stepped.report;

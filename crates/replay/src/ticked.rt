@@ -21,8 +21,8 @@ struct Run {
 // One call with the script's next reading.
 fn advanced(q: &[u8; 128], r: Run, by: u32) -> Run {
     let before = r.ticked;
-    let place = r.cursor;
-    let cursor = script::settled(q, place);
+    let earlier = r.cursor;
+    let cursor = script::settled(q, earlier);
     let stepped = before.step(script::reading_at(q, cursor.segment), r.tick);
     let ticked = stepped.ticked;
     let report = stepped.report;

@@ -8,7 +8,7 @@ use native.Mathlib.Omega.{arith}
 use borrow.Author.Tests.{eqb-true, ne-eqb, leb-true, leb-false}
 use lib.Dec.{eqb, leb}
 use lib.ListN.{getD}
-use Rattle.answer.specs.Tools.{true-false, cases}
+use Rattle.answer.specs.Tools.{true-false, false-true, cases}
 use Rattle.tree.specs.declared.Clocks.{Clocks}
 use Rattle.v4x7.specs.declared.Config.{Config}
 use Rattle.startup.specs.Steps.{Op, write, wait, flash, compare, ops}
@@ -16,10 +16,11 @@ use Rattle.startup.specs.declared.Report.{Report}
 use Rattle.startup.specs.declared.Report.the-variants.{Worked, Waiting, Running, Failed, Refused}
 use Rattle.startup.specs.declared.Reading.{Reading}
 use Rattle.startup.specs.declared.Phase.the-variants.{Over}
+use Rattle.startup.specs.declared.Startup.{Startup}
 use Rattle.ticks.specs.declared.Waits.{Waits}
 use Rattle.ticks.specs.declared.Ticks as declared
 use Rattle.ticks.specs.declared.Ticked.{Ticked}
-use Rattle.ticks.specs.Ticks.{spentOf, eightOf, maximum, longestOf, hasWait, notedOf, metOf, meetsWait, afterOf, tickedOf}
+use Rattle.ticks.specs.Ticks.{spentOf, eightOf, maximum, longestOf, hasWait, notedOf, metOf, meetsWait, afterOf, begunWith, tickedOf}
 
 -- A counter of 32 bits that goes on for d ticks from a: the difference is d, and of a wait longer than a full turn its remainder only.
 pub turned : (a d : ℕ) → a < 4294967296 → spentOf a ((a + d) % 4294967296) ≡ d % 4294967296
@@ -47,6 +48,11 @@ one-of (n ∷ l) = by-size (one-of l) (leb (maximum l) n) refl
 pub longest-is : (w : Waits) → ((i : ℕ) → getD (eightOf w) i 0 ≤ longestOf w) × ((i : ℕ) × (getD (eightOf w) i 0 ≡ longestOf w))
 unfolding longestOf
 longest-is w = (none-longer (eightOf w), one-of (eightOf w))
+
+-- Just started, each of the eight is 0, and so is the longest.
+pub begun-zero : (s : Startup) → let w = begunWith s .ticks .waits in (eightOf w ≡ 0 ∷ 0 ∷ 0 ∷ 0 ∷ 0 ∷ 0 ∷ 0 ∷ 0 ∷ []) × (longestOf w ≡ 0)
+unfolding longestOf
+begun-zero s = (refl, refl)
 
 -- The eight steps are those of document 01's steps that wait.
 
@@ -83,6 +89,25 @@ first-taken t tick step used = refl
 pub first-kept : (t : declared.Ticks) (unmet tick step used : ℕ) → (unmet ≡ 0 → ⊥) → afterOf t unmet tick (Waiting step used) .first ≡ t .first
 unfolding afterOf
 first-kept t unmet tick step used h = rw (ne-eqb unmet 0 h)
+
+-- A wait met by its first reading has 0 ticks; one met later has those from its first reading on.
+pub met-at-once : (t : declared.Ticks) (tick step used : ℕ) → tick < 4294967296 →
+    afterOf t 0 tick (Worked step used) .waits ≡ notedOf (t .waits) step 0
+unfolding afterOf metOf
+met-at-once t tick step used h = let e : spentOf tick tick ≡ 0 = omega arith in ap (notedOf (t .waits) step) e
+
+pub met-later : (t : declared.Ticks) (unmet tick step used : ℕ) → (unmet ≡ 0 → ⊥) →
+    afterOf t unmet tick (Worked step used) .waits ≡ notedOf (t .waits) step (spentOf (t .first) tick)
+unfolding afterOf metOf
+met-later t unmet tick step used h = rw (ne-eqb unmet 0 h)
+
+-- A report meets a wait where it says that a step with a wait is worked, and nowhere else.
+pub meets-is : (report : Report) → meetsWait report ≡ true → (step used : ℕ) × ((report ≡ Worked step used) × (hasWait step ≡ true))
+meets-is (Worked step used) h = (step, used, (refl, h))
+meets-is (Waiting step used) h = false-true h
+meets-is (Running step used) h = false-true h
+meets-is (Failed number step used) h = false-true h
+meets-is (Refused number) h = false-true h
 
 -- A report that meets no wait leaves all eight.
 
