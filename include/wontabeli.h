@@ -33,18 +33,13 @@ extern "C" {
 
 /* ---- CH32V4x7: the check, the decoder, the queries ---- */
 
-/* Checks a profile of ten bytes. Gives V4X7_CHECK_WORDS words: SYSCLK, HCLK, PCLK1, PCLK2, the timers' clocks of PCLK1 and PCLK2, the ADC's frequency
- * rounded down, and what it is exactly, a source in Hz over a divisor in lowest terms: 100,000,012 Hz by 8 is 25,000,003 over 2. The source is at
- * V4X7_CHECK_ADC_SOURCE, the divisor at V4X7_CHECK_ADC_DIVISOR. A caller that lends CHECK_WORDS words, or one more, gets the first CHECK_WORDS of them,
- * all that the call gave before it had the ratio; what it lent beyond these stays.
- * Refused by 32 (out_len less than CHECK_WORDS), 29 (profile_len not 10), 30, then by the check's 1 to 16 (docs/REFUSALS.md has their order). */
+/* Checks a profile of ten bytes. Gives CHECK_WORDS words: SYSCLK, HCLK, PCLK1, PCLK2, the timers' clocks of PCLK1 and PCLK2, the ADC's frequency.
+ * Refused by 32, 29 (profile_len not 10), 30, then by the check's 1 to 16 (docs/REFUSALS.md has their order). */
 uint8_t wontabeli_check(const uint8_t *profile, size_t profile_len, uint32_t *out, size_t out_len);
 
-/* Decodes an image of eight bytes, with HSE's frequency in Hz; 0 means that there is no HSE, here and in the decoders below. Gives V4X7_DECODE_WORDS
- * words: the clocks in the same order, and the ADC's source at V4X7_DECODE_ADC_SOURCE over its divisor at V4X7_DECODE_ADC_DIVISOR, in lowest terms; 0 over
- * 0 where the PLL that the ADC runs from is not ready. A caller that lends CLOCKS_WORDS words, or one more, gets the clocks alone; what it lent beyond these
- * stays.
- * Refused by 32 (out_len less than CLOCKS_WORDS), 31 (image_len not 8, or filling), then by 3, 4, 5, 6, 8, 12, 17, 18, 19, 20. */
+/* Decodes an image of eight bytes, with HSE's frequency in Hz; 0 means that there is no HSE, here and in the decoders below. Gives CLOCKS_WORDS
+ * words, the clocks in the same order.
+ * Refused by 32, 31 (image_len not 8, or filling), then by 3, 4, 5, 6, 8, 12, 17, 18, 19, 20. */
 uint8_t wontabeli_decode(const uint8_t *image, size_t image_len, uint32_t hse, uint32_t *out, size_t out_len);
 
 /* The frequency that an image gives the ADC, and the RNG's source, with SYSCLK in Hz. Gives PAIR_WORDS words: 1 and the frequency; or two zeros

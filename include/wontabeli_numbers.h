@@ -38,7 +38,7 @@
 #define WONTABELI_RATE_ZERO 33 /* Serial rate 0. */
 #define WONTABELI_BRR_OUT_OF_RANGE 34 /* Serial divisor BRR outside 16..65,535. */
 
-/* The clocks, by their place in what a check or a decoder gives; MORE is a check's number after them, and H4's. */
+/* The clocks, by their place in what a check or a decoder gives; MORE is the number after them. */
 #define WONTABELI_SYSCLK 0
 #define WONTABELI_HCLK 1
 #define WONTABELI_PCLK1 2
@@ -47,17 +47,9 @@
 #define WONTABELI_PCLK2_TIM 5
 #define WONTABELI_MORE 6
 
-/* The ADC's ratio, by its places in what the V4x7 check and decoder give. */
-#define WONTABELI_V4X7_CHECK_ADC_SOURCE 7
-#define WONTABELI_V4X7_CHECK_ADC_DIVISOR 8
-#define WONTABELI_V4X7_DECODE_ADC_SOURCE 6
-#define WONTABELI_V4X7_DECODE_ADC_DIVISOR 7
-
 /* The numbers of crates/capi_give. */
 #define WONTABELI_CLOCKS_WORDS 6 /* The six clocks, in words. */
 #define WONTABELI_CHECK_WORDS 7 /* The six clocks and one more number, in words. */
-#define WONTABELI_V4X7_CHECK_WORDS 9 /* What the V4x7 check gives, in words: the six clocks, the ADC's frequency, and its ratio. Seven lent words get the first seven. */
-#define WONTABELI_V4X7_DECODE_WORDS 8 /* What the V4x7 decoder gives, in words: the six clocks, and the ADC's ratio. Six lent words get the first six. */
 #define WONTABELI_PAIR_WORDS 2 /* Two numbers, in words. */
 
 /* The numbers of crates/capi. */

@@ -18,7 +18,7 @@ static void is(int line, unsigned long long found, unsigned long long wanted)
 #define IS(found, wanted) is(__LINE__, (found), (wanted))
 #define SAME(found, ...) do { static const uint8_t w_[] = {__VA_ARGS__}; IS(memcmp((found), w_, sizeof w_), 0); } while (0)
 
-static uint32_t out[WONTABELI_V4X7_CHECK_WORDS];
+static uint32_t out[WONTABELI_CHECK_WORDS];
 
 static void clocks(int line, uint32_t sysclk, uint32_t hclk, uint32_t pclk1, uint32_t pclk2, uint32_t pclk1_tim, uint32_t pclk2_tim)
 {
@@ -65,11 +65,9 @@ static void profiles(void)
     IS(wontabeli_read_profile(p, 10, g, sizeof g), 0);
     IS(memcmp(f, g, sizeof f), 0);
     /* 100 MHz by 2, 4 and 2; the timers twice their bus; 480 MHz by 16 x 2 x 4 */
-    IS(wontabeli_check(p, 10, out, WONTABELI_V4X7_CHECK_WORDS), 0);
+    IS(wontabeli_check(p, 10, out, WONTABELI_CHECK_WORDS), 0);
     clocks(__LINE__, 100000000, 50000000, 12500000, 25000000, 25000000, 50000000);
     IS(out[WONTABELI_MORE], 3750000);
-    IS(out[WONTABELI_V4X7_CHECK_ADC_SOURCE], 3750000);
-    IS(out[WONTABELI_V4X7_CHECK_ADC_DIVISOR], 1);
     IS(wontabeli_waits_owed(p, 10, out), 0);
     IS(out[0], 7);
     IS(wontabeli_call_bound(p, 10, out), 0);
@@ -135,11 +133,9 @@ static void images(void)
     SAME(i, 0xa2, 0x46, 0x46, 0x66, 0x50, 0x8a, 0xa6, 0xa0);
     IS(wontabeli_read_image(i, 8, g, sizeof g), 0);
     IS(memcmp(f, g, sizeof f), 0);
-    /* SWS 1: HSE, 12 MHz by 4 (code 9), by 2, by 8; the ADC by 4 x 8 x 4 */
-    IS(wontabeli_decode(i, 8, 12000000, out, WONTABELI_V4X7_DECODE_WORDS), 0);
+    /* SWS 1: HSE, 12 MHz by 4 (code 9), by 2, by 8 */
+    IS(wontabeli_decode(i, 8, 12000000, out, WONTABELI_CLOCKS_WORDS), 0);
     clocks(__LINE__, 12000000, 3000000, 1500000, 375000, 3000000, 750000);
-    IS(out[WONTABELI_V4X7_DECODE_ADC_SOURCE], 93750);
-    IS(out[WONTABELI_V4X7_DECODE_ADC_DIVISOR], 1);
     IS(wontabeli_decode(i, 8, 0, out, 6), WONTABELI_HSE_MISSING);
     IS(wontabeli_decode(i, 8, 1, out, 6), WONTABELI_HSE_OUT_OF_RANGE);
     /* the ADC from HCLK: 12 MHz by 4 x 8 x 4; the RNG from a PLL that is not ready */
@@ -341,52 +337,6 @@ static void differing(void)
     }
 }
 
-/* A startup whose calls had good readings, before step 28; and the last used reading, step 27's. */
-static void before_28(uint8_t *place, const uint8_t *profile, uint16_t last)
-{
-    int n;
-    IS(wontabeli_start(profile, 10, image, 8, place, WONTABELI_PLACE_SIZE), 0);
-    for (n = 0; n < 28 && place[WONTABELI_PLACE_STEP] != 28; n++) {
-        int step = place[WONTABELI_PLACE_STEP];
-        uint16_t reading = step == 27 ? last : step == 15 ? WONTABELI_HSIRDY + WONTABELI_USBHS_PLLRDY : WONTABELI_HSIRDY;
-        IS(wontabeli_step(place, WONTABELI_PLACE_SIZE, reading, 0), 0);
-    }
-    IS(place[WONTABELI_PLACE_STEP], 28);
-}
-
-/* Step 28 with these bits of the image turned over: its number. */
-static void compares(int line, const uint8_t *profile, uint16_t last, int byte, uint8_t bits, uint8_t number)
-{
-    uint8_t place[WONTABELI_PLACE_SIZE], kept[WONTABELI_PLACE_SIZE];
-    before_28(place, profile, last);
-    place[WONTABELI_PLACE_IMAGE + byte] ^= bits;
-    memcpy(kept, place, sizeof kept);
-    is(line, wontabeli_step(place, sizeof place, 0, 99), number);
-    is(line, place[WONTABELI_PLACE_PHASE], number == 0 ? WONTABELI_PHASE_RUNNING : WONTABELI_PHASE_GOING);
-    is(line, memcmp(place, kept, sizeof place) == 0, number != 0);
-}
-
-/* Document 02's K6: the ADC's ratio is compared where the ADC runs from HCLK, or the last used reading has USBHS ready. ADCPRE is the image's bits 32 and
- * 33, row A11 has 3; ADC_CLKDIV its bits 50 to 54, and row A9, whose ADC runs from the USBHS PLL by 2, has 1. */
-static void comparing_ratios(void)
-{
-    static const uint8_t a9[10] = {0, 0, 0, 0, 0, 0x18, 0x50, 0, 0x40, 0xb4};
-    const uint16_t ready = WONTABELI_HSIRDY + WONTABELI_USBHS_PLLRDY;
-    compares(__LINE__, a11, WONTABELI_HSIRDY, 4, 0, 0);
-    /* ADCPRE 1: 20 MHz over 4, and not over 8 */
-    compares(__LINE__, a11, WONTABELI_HSIRDY, 4, 0x80, WONTABELI_CLOCKS_DIFFER);
-    compares(__LINE__, a11, ready, 4, 0x80, WONTABELI_CLOCKS_DIFFER);
-    /* the USBHS PLL's divisor, which the ADC doesn't take */
-    compares(__LINE__, a11, WONTABELI_HSIRDY, 6, 0x04, 0);
-    /* ADC_CLKDIV 3: 480 MHz over 4 x 8, and not over 2 x 8 */
-    compares(__LINE__, a9, ready, 6, 0, 0);
-    compares(__LINE__, a9, ready, 6, 0x04, WONTABELI_CLOCKS_DIFFER);
-    compares(__LINE__, a9, WONTABELI_HSIRDY, 6, 0, 0);
-    compares(__LINE__, a9, WONTABELI_HSIRDY, 6, 0x04, 0);
-    /* PPRE1 4, bits 26 to 28: the six clocks in any case */
-    compares(__LINE__, a9, WONTABELI_HSIRDY, 3, 0x20, WONTABELI_CLOCKS_DIFFER);
-}
-
 /* Several records wrong at once: 32, then the profile's 29 or 30, then the image's 31, then 28 or the check's. */
 static void wrong_together(void)
 {
@@ -416,149 +366,6 @@ static void wrong_together(void)
     IS(wontabeli_step(place, sizeof place, 0, 0), WONTABELI_CODE_NOT_ALLOWED);
     IS(wontabeli_waits_owed(filled, 10, out), WONTABELI_PROFILE_CODE);
     IS(wontabeli_call_bound(filled, 10, out), WONTABELI_PROFILE_CODE);
-}
-
-/* ---- The ADC's ratio, document 02's K6 ---- */
-
-enum { OLD_CHECK = 7, NEW_CHECK = 9, OLD_DECODE = 6, NEW_DECODE = 8, LENT = 12 };
-
-/* What so many lent words hold after a call that now gives `most` words, and gave the first `least` of them before: all where they fit, else those; and
- * nothing new with a refusal. */
-static void holds(int line, const uint32_t *lent, size_t count, uint8_t number, const uint32_t *words, size_t least, size_t most)
-{
-    size_t n, given = number != 0 ? 0 : count < most ? least : most;
-    for (n = 0; n < LENT; n++)
-        is(line, lent[n], n < given ? words[n] : 0xeeeeeeee);
-}
-
-/* A profile, the number that its check answers, and its words; with each number of lent words. */
-static void checks(int line, const uint8_t *profile, size_t profile_len, uint8_t number, const uint32_t *words)
-{
-    uint32_t lent[LENT];
-    size_t count;
-    for (count = 0; count <= LENT; count++) {
-        uint8_t wanted = count < OLD_CHECK ? WONTABELI_OUTPUT_TOO_SHORT : number;
-        memset(lent, 0xee, sizeof lent);
-        is(line, wontabeli_check(profile, profile_len, lent, count), wanted);
-        holds(line, lent, count, wanted, words, OLD_CHECK, NEW_CHECK);
-    }
-}
-
-static void checked_ratios(void)
-{
-    static const struct { uint8_t profile[10]; uint32_t words[NEW_CHECK]; } list[] = {
-        /* document 02's ratio: HSE 25,000,003 x 8 / 2 is 100,000,012, and that over 8 */
-        {{0x80, 0x5f, 0x5e, 0x10, 0xec, 0x18, 0x80, 0, 0, 0x34},
-            {100000012, 100000012, 100000012, 100000012, 100000012, 100000012, 12500001, 25000003, 2}},
-        /* row A6: HSE 8,000,001 x 12.5 is 100,000,012 too, since it is rounded */
-        {{0x80, 0x1e, 0x84, 0x80, 0x6c, 0xb8, 0, 0, 0, 0x34},
-            {100000012, 100000012, 100000012, 100000012, 100000012, 100000012, 12500001, 25000003, 2}},
-        /* row A11: 20 MHz over 8 */
-        {{0, 0, 0, 0, 0, 0x18, 0, 0, 0, 0x34}, {20000000, 20000000, 20000000, 20000000, 20000000, 20000000, 2500000, 2500000, 1}},
-        /* row A7: two thirds of the ETH PLL by 2, 166,666,666 over 8 */
-        {{0x80, 0x5f, 0x5e, 0x10, 0x20, 0x0c, 0x88, 0, 0, 0x34},
-            {166666666, 166666666, 166666666, 166666666, 166666666, 166666666, 20833333, 83333333, 4}},
-        /* HSI, AHB by 512 and APB2 by 16: 20,000,000 is 78,125 x 256, over 512 x 16 x 8, which is 256 x 256 */
-        {{0, 0, 0, 0, 0, 0x18, 0x07, 0x8e, 0, 0x34}, {20000000, 39062, 39062, 2441, 39062, 4882, 305, 78125, 256}},
-        /* the ADC from the USBHS PLL by 31, prescaler 6: 480,000,000 over 31 x 6 */
-        {{0, 0, 0, 0, 0, 0x18, 0x50, 0, 0x47, 0xe4}, {20000000, 20000000, 20000000, 20000000, 20000000, 20000000, 2580645, 80000000, 31}}};
-    /* row A2 */
-    static const uint8_t a2[10] = {0x80, 0x13, 0x12, 0xcf, 0xc0, 0x18, 0, 0, 0, 0x34};
-    size_t n;
-    IS(WONTABELI_V4X7_CHECK_WORDS, NEW_CHECK);
-    for (n = 0; n < sizeof list / sizeof *list; n++)
-        checks(__LINE__, list[n].profile, 10, 0, list[n].words);
-    checks(__LINE__, a2, 10, WONTABELI_HSE_OUT_OF_RANGE, list[0].words);
-    checks(__LINE__, a2, 9, WONTABELI_PROFILE_LENGTH, list[0].words);
-}
-
-/* Fields of an image, and the rest 0. */
-struct fields { uint8_t usbhs_ready, eth_ready, sws, pllsrc, hpre, ppre2, adcpre, adcsrc, syspllsrc, sysplldiv, adc_clkdiv; };
-
-static void image_of(const struct fields *g, uint8_t *i)
-{
-    uint8_t f[WONTABELI_IMAGE_FIELDS] = {0};
-    f[WONTABELI_IMAGE_USBHS_PLLRDY] = g->usbhs_ready;
-    f[WONTABELI_IMAGE_ETH_PLLRDY] = g->eth_ready;
-    f[WONTABELI_IMAGE_SWS] = g->sws;
-    f[WONTABELI_IMAGE_PLLSRC] = g->pllsrc;
-    f[WONTABELI_IMAGE_HPRE] = g->hpre;
-    f[WONTABELI_IMAGE_PPRE2] = g->ppre2;
-    f[WONTABELI_IMAGE_ADCPRE] = g->adcpre;
-    f[WONTABELI_IMAGE_ADCSRC] = g->adcsrc;
-    f[WONTABELI_IMAGE_SYSPLLSRC] = g->syspllsrc;
-    f[WONTABELI_IMAGE_SYSPLLDIV] = g->sysplldiv;
-    f[WONTABELI_IMAGE_ADC_CLKDIV] = g->adc_clkdiv;
-    IS(wontabeli_write_image(f, sizeof f, i, WONTABELI_IMAGE_SIZE), 0);
-}
-
-static void decoded_ratios(void)
-{
-    static const struct { struct fields fields; uint32_t hse; uint8_t number; uint32_t words[NEW_DECODE]; } list[] = {
-        /* document 02's ratio: PLLMUL 0 is 8, SYSPLL source 6 by 2, ADCPRE 3 by 8 */
-        {{0, 0, 2, 1, 0, 0, 3, 0, 6, 1, 0}, 25000003, 0, {100000012, 100000012, 100000012, 100000012, 100000012, 100000012, 25000003, 2}},
-        /* HSI, by 512, 16 and 8 as above */
-        {{0, 0, 0, 0, 15, 7, 3, 0, 0, 0, 0}, 0, 0, {20000000, 39062, 39062, 2441, 39062, 4882, 78125, 256}},
-        /* HSI over 6; of the USBHS PLL, which is not ready, the ADC takes nothing */
-        {{0, 0, 0, 0, 0, 0, 2, 0, 0, 0, 30}, 0, 0, {20000000, 20000000, 20000000, 20000000, 20000000, 20000000, 10000000, 3}},
-        /* the ADC from the USBHS PLL by 31, and by 6 */
-        {{1, 0, 0, 0, 0, 0, 2, 1, 0, 0, 30}, 0, 0, {20000000, 20000000, 20000000, 20000000, 20000000, 20000000, 80000000, 31}},
-        /* the same, not ready; and with the ETH PLL ready in its place */
-        {{0, 0, 0, 0, 0, 0, 2, 1, 0, 0, 30}, 0, 0, {20000000, 20000000, 20000000, 20000000, 20000000, 20000000, 0, 0}},
-        {{0, 1, 0, 0, 0, 0, 2, 1, 0, 0, 30}, 0, 0, {20000000, 20000000, 20000000, 20000000, 20000000, 20000000, 0, 0}},
-        /* not ready, and refused: the refusal comes first */
-        {{0, 0, 3, 0, 0, 0, 2, 1, 0, 0, 30}, 0, WONTABELI_SYSCLK_RESERVED, {0}}};
-    uint8_t i[WONTABELI_IMAGE_SIZE];
-    uint32_t lent[LENT];
-    size_t n, count;
-    IS(WONTABELI_V4X7_DECODE_WORDS, NEW_DECODE);
-    for (n = 0; n < sizeof list / sizeof *list; n++) {
-        image_of(&list[n].fields, i);
-        for (count = 0; count <= LENT; count++) {
-            uint8_t wanted = count < OLD_DECODE ? WONTABELI_OUTPUT_TOO_SHORT : list[n].number;
-            memset(lent, 0xee, sizeof lent);
-            IS(wontabeli_decode(i, 8, list[n].hse, lent, count), wanted);
-            holds(__LINE__, lent, count, wanted, list[n].words, OLD_DECODE, NEW_DECODE);
-        }
-    }
-}
-
-/* An image's ratio is this source over this divisor, which has no prime above 31, in lowest terms by trial; and the ADC query's frequency is its quotient. */
-static void ratio_is(const struct fields *g, uint32_t hse, uint32_t source, uint32_t divisor)
-{
-    uint8_t i[WONTABELI_IMAGE_SIZE];
-    uint32_t found[NEW_DECODE] = {0}, query[WONTABELI_PAIR_WORDS] = {0}, by;
-    image_of(g, i);
-    IS(wontabeli_decode(i, 8, hse, found, NEW_DECODE), 0);
-    IS(wontabeli_adc(i, 8, found[WONTABELI_SYSCLK], query, WONTABELI_PAIR_WORDS), 0);
-    IS(query[1], source / divisor);
-    for (by = 2; by <= 31; by++)
-        for (; source % by == 0 && divisor % by == 0; source /= by)
-            divisor /= by;
-    IS(found[WONTABELI_V4X7_DECODE_ADC_SOURCE], source);
-    IS(found[WONTABELI_V4X7_DECODE_ADC_DIVISOR], divisor);
-}
-
-/* Every code of the dividers, from HSE and from the USBHS PLL. 30,030,000 has the primes 2, 3, 5, 7, 11 and 13; 30,000,001 has none below 31. */
-static void every_divisor(void)
-{
-    static const uint32_t ahb[16] = {1, 1, 1, 1, 1, 1, 1, 1, 2, 4, 8, 16, 64, 128, 256, 512}, apb[8] = {1, 1, 1, 1, 2, 4, 8, 16}, adc[4] = {2, 4, 6, 8};
-    static const uint32_t hse[] = {5000000, 30030000, 30000001, 16777216, 31999999};
-    uint8_t code, ppre2, adcpre;
-    size_t n;
-    for (ppre2 = 0; ppre2 < 8; ppre2++)
-        for (adcpre = 0; adcpre < 4; adcpre++) {
-            uint32_t below = apb[ppre2] * adc[adcpre];
-            for (code = 0; code < 32; code++) {
-                struct fields g = {1, 0, 0, 0, 0, ppre2, adcpre, 1, 0, 0, code};
-                ratio_is(&g, 0, 480000000, (code + 1u) * below);
-            }
-            for (code = 0; code < 16; code++)
-                for (n = 0; n < sizeof hse / sizeof *hse; n++) {
-                    struct fields g = {0, 0, 1, 0, code, ppre2, adcpre, 0, 0, 0, 0};
-                    ratio_is(&g, hse[n], hse[n], ahb[code] * below);
-                }
-        }
 }
 
 /* ---- The ticks of the waits, document 02's K5 ---- */
@@ -1048,16 +855,12 @@ int main(void)
 {
     profiles();
     images();
-    checked_ratios();
-    decoded_ratios();
-    every_divisor();
     startups();
     readings();
     failing();
     flash_mode();
     running();
     differing();
-    comparing_ratios();
     wrong_together();
     full_boot();
     odd_ticks();

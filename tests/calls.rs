@@ -28,7 +28,6 @@ fn profiles() {
     let promised = check(&profile).unwrap();
     assert_eq!(promised.clocks, clocks(100_000_000, 50_000_000, 12_500_000, 25_000_000, 25_000_000, 50_000_000));
     assert_eq!(promised.adc, 3_750_000);
-    assert_eq!(promised.adc_ratio, Ratio { source: 3_750_000, divisor: 1 });
     assert_eq!(waits_owed(&profile), Ok(7));
     assert_eq!(call_bound(&profile), Ok(7_000_020));
     // HSE 25 MHz bypassed, SYSPLL source 3 by 4, the ETH PLL, the RNG from it
@@ -51,43 +50,13 @@ fn profiles() {
     assert_eq!(Refusal::ProfileLength.to_string(), "Profile not 10 bytes.");
 }
 
-// Document 02's ratio: 100,000,012 over 8.
-fn ratios() {
-    let config = Config {
-        hse: Some(Hse { bypass: false, freq: 25_000_003 }),
-        sys: Sysclk::Pll,
-        pll_src: PllSource::Hse,
-        pll: Some(PllMul::Mul8),
-        syspll_pre: SysPllPrescaler::Div2,
-        ..Config::default()
-    };
-    let run = clocks(100_000_012, 100_000_012, 100_000_012, 100_000_012, 100_000_012, 100_000_012);
-    let ratio = Ratio { source: 25_000_003, divisor: 2 };
-    let promised = check(&config.to_profile().unwrap());
-    assert_eq!(promised, Ok(Checked { clocks: run, adc: 12_500_001, adc_ratio: ratio }));
-    // the registers: PLLMUL 0 is 8
-    let mut fields = [0; IMAGE_FIELDS];
-    (fields[IMAGE_SWS], fields[IMAGE_PLLSRC], fields[IMAGE_SYSPLLSRC], fields[IMAGE_SYSPLLDIV], fields[IMAGE_ADCPRE]) = (2, 1, 6, 1, 3);
-    let decoded = |fields: [u8; IMAGE_FIELDS]| decode(&write_image(&fields).unwrap(), NonZeroU32::new(25_000_003));
-    assert_eq!(decoded(fields), Ok(Decoded { clocks: run, adc_ratio: Some(ratio) }));
-    // the ADC from the USBHS PLL by 31 and 8, which is not ready, and is: 480,000,000 is 8 x 60,000,000
-    (fields[IMAGE_ADCSRC], fields[IMAGE_ADC_CLKDIV]) = (1, 30);
-    assert_eq!(decoded(fields), Ok(Decoded { clocks: run, adc_ratio: None }));
-    fields[IMAGE_USBHS_PLLRDY] = 1;
-    assert_eq!(decoded(fields), Ok(Decoded { clocks: run, adc_ratio: Some(Ratio { source: 60_000_000, divisor: 31 }) }));
-    // a refusal comes first
-    (fields[IMAGE_USBHS_PLLRDY], fields[IMAGE_SWS]) = (0, 3);
-    assert_eq!(decoded(fields), Err(Refusal::SysclkReserved));
-}
-
 fn images() {
     let image = [0xa2, 0x46, 0x46, 0x66, 0x50, 0x8a, 0xa6, 0xa0];
     let mut fields = read_image(&image).unwrap();
     assert_eq!((fields[IMAGE_SWS], fields[IMAGE_HPRE], fields[IMAGE_ADC_CLKDIV]), (1, 9, 19));
     assert_eq!(write_image(&fields), Ok(image));
     let hse = NonZeroU32::new(12_000_000);
-    let run = clocks(12_000_000, 3_000_000, 1_500_000, 375_000, 3_000_000, 750_000);
-    assert_eq!(decode(&image, hse), Ok(Decoded { clocks: run, adc_ratio: Some(Ratio { source: 93_750, divisor: 1 }) }));
+    assert_eq!(decode(&image, hse), Ok(clocks(12_000_000, 3_000_000, 1_500_000, 375_000, 3_000_000, 750_000)));
     assert_eq!(decode(&image, None), Err(Refusal::HseMissing));
     assert_eq!(adc_frequency(&image, 12_000_000), Ok(Some(93_750)));
     assert_eq!(rng_source_frequency(&image, 12_000_000), Ok(None));
@@ -198,8 +167,6 @@ fn differs() {
     assert_eq!(changed(a11, &[(IMAGE_PPRE1, 4)]), differ);
     assert_eq!(changed(a11, &[(IMAGE_PPRE2, 4)]), differ);
     assert_eq!(changed(a11, &[(IMAGE_HPRE, 7)]), Ok(Report::Running { step: 28, used: 5 }));
-    // the ADC by 4, and not by 8: its ratio is compared too (document 02, K6)
-    assert_eq!(changed(a11, &[(IMAGE_ADCPRE, 1)]), differ);
     assert_eq!(changed(a11, &[(IMAGE_SWS, 3)]), differ);
     // Row A5 with both buses by 4: SYSCLK 400 MHz by 2 again; then HCLK 100 MHz, and the buses by 2.
     let a5 = before_28(&[0, 0, 0, 0, 0x26, 0x98, 0x80, 0x5a, 0, 0x34], 2, 1);
@@ -432,8 +399,8 @@ fn trays() {
     let mut lent = [0xee; 5 * BOARD_SIZE];
     let records = tray(&profiles.concat(), &mut lent).unwrap();
     assert_eq!(records.len(), 3 * BOARD_SIZE);
-    let divided = Board { clocks: clocks(20_000_000, 10_000_000, 2_500_000, 625_000, 5_000_000, 1_250_000), adc: 78_125 };
-    let a11 = Board { clocks: clocks(20_000_000, 20_000_000, 20_000_000, 20_000_000, 20_000_000, 20_000_000), adc: 2_500_000 };
+    let divided = Checked { clocks: clocks(20_000_000, 10_000_000, 2_500_000, 625_000, 5_000_000, 1_250_000), adc: 78_125 };
+    let a11 = Checked { clocks: clocks(20_000_000, 20_000_000, 20_000_000, 20_000_000, 20_000_000, 20_000_000), adc: 2_500_000 };
     assert_eq!(boards(records).collect::<Vec<_>>(), [Ok(divided), Err(Refusal::HseOutOfRange), Ok(a11)]);
     assert_eq!(lent[3 * BOARD_SIZE..], [0xee; 2 * BOARD_SIZE]);
     // numbers that no tray writes: 16,843,009 and 35; and a record that is cut off
@@ -454,15 +421,13 @@ fn trays() {
     let many: Vec<_> = listed.iter().cycle().take(1_000).collect();
     let mut lent = vec![0xee; 1_000 * BOARD_SIZE];
     let records = tray(&many.iter().flat_map(|board| board.1.clone()).collect::<Vec<_>>(), &mut lent).unwrap();
-    let alone = |profile: &[u8]| check(profile).map(|promised| Board { clocks: promised.clocks, adc: promised.adc });
-    assert!(boards(records).eq(many.iter().map(|board| alone(&board.1))));
+    assert!(boards(records).eq(many.iter().map(|board| check(&board.1))));
     assert!(many.iter().all(|board| check(&board.1).err() == Refusal::from_number(board.0)));
     assert_eq!((listed.len(), boards(records).count()), (22, 1_000));
 }
 
 fn main() {
     profiles();
-    ratios();
     images();
     startups();
     ends();

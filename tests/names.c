@@ -1,5 +1,5 @@
-/* Every name of include/names.txt, the names of what a place's bytes hold and of where a ratio is, and the refusals' sentences, held to the library: what a
- * name says comes about, and the profile's reader and writer take no code but those that have a name. So is what the header says of free bytes and of damaged places.
+/* Every name of include/names.txt, the names of what a place's bytes hold, and the refusals' sentences, held to the library: what a name says comes
+ * about, and the profile's reader and writer take no code but those that have a name. So is what the header says of free bytes and of damaged places.
  * Writes what is wrong and how many are right; status 1 where one is wrong. */
 #include <stdio.h>
 #include <string.h>
@@ -258,35 +258,6 @@ static void v4x7_sources(void)
     IS(out[WONTABELI_SYSCLK], 111111111);
     IS(checked_with(WONTABELI_PROFILE_SYSPLL_SOURCE, WONTABELI_V4X7_SYSPLL_SOURCE_PLL), 0);
     IS(out[WONTABELI_SYSCLK], 80 * MHZ);
-}
-
-/* HSI by 64, 16 and 8: 20 MHz is 78,125 x 256, and the divisor 32 x 256. The check and the decoder give that where the names say, with as many words lent. */
-static void v4x7_ratios(void)
-{
-    uint8_t profile[WONTABELI_PROFILE_SIZE], image[WONTABELI_IMAGE_SIZE], g[WONTABELI_IMAGE_FIELDS] = {0};
-    uint32_t words[WONTABELI_V4X7_CHECK_WORDS + 1];
-    fields_with(0);
-    f[WONTABELI_PROFILE_AHB] = g[WONTABELI_IMAGE_HPRE] = WONTABELI_V4X7_AHB_DIV64;
-    f[WONTABELI_PROFILE_APB2] = g[WONTABELI_IMAGE_PPRE2] = WONTABELI_APB_DIV16;
-    g[WONTABELI_IMAGE_ADCPRE] = WONTABELI_V4X7_ADC_DIV8;
-    IS(wontabeli_write_profile(f, sizeof f, profile, sizeof profile), 0);
-    IS(wontabeli_write_image(g, sizeof g, image, sizeof image), 0);
-    memset(words, 0xee, sizeof words);
-    IS(wontabeli_check(profile, sizeof profile, words, WONTABELI_V4X7_CHECK_WORDS - 1), 0);
-    IS(words[WONTABELI_V4X7_CHECK_ADC_SOURCE], 0xeeeeeeee);
-    IS(wontabeli_check(profile, sizeof profile, words, WONTABELI_V4X7_CHECK_WORDS), 0);
-    IS(words[WONTABELI_MORE], 2441);
-    IS(words[WONTABELI_V4X7_CHECK_ADC_SOURCE], 78125);
-    IS(words[WONTABELI_V4X7_CHECK_ADC_DIVISOR], 32);
-    IS(words[WONTABELI_V4X7_CHECK_WORDS], 0xeeeeeeee);
-    memset(words, 0xee, sizeof words);
-    IS(wontabeli_decode(image, sizeof image, 0, words, WONTABELI_V4X7_DECODE_WORDS - 1), 0);
-    IS(words[WONTABELI_V4X7_DECODE_ADC_SOURCE], 0xeeeeeeee);
-    IS(wontabeli_decode(image, sizeof image, 0, words, WONTABELI_V4X7_DECODE_WORDS), 0);
-    IS(words[WONTABELI_PCLK2_TIM], 39062);
-    IS(words[WONTABELI_V4X7_DECODE_ADC_SOURCE], 78125);
-    IS(words[WONTABELI_V4X7_DECODE_ADC_DIVISOR], 32);
-    IS(words[WONTABELI_V4X7_DECODE_WORDS], 0xeeeeeeee);
 }
 
 /* ---- V1 and L1 ---- */
@@ -658,7 +629,6 @@ int main(void)
     v4x7_divisors();
     v4x7_multipliers();
     v4x7_sources();
-    v4x7_ratios();
     board_places();
     v1_records();
     v1_fields();

@@ -169,16 +169,12 @@ static void dividers(uint8_t *place)
     set(place, ADC_DUTY, get(place, DUTY));
 }
 
-/* Step 28: the image, decoded, gives the six clocks of the check. And the ADC's ratio, document 02's K6, where the ADC runs from HCLK or the last used
- * reading has USBHS ready. */
+/* Step 28: the image, decoded, gives the six clocks of the check. */
 static int same_clocks(const uint8_t *place, const uint32_t *clocks)
 {
-    uint32_t decoded[WONTABELI_V4X7_DECODE_WORDS];
-    if (wontabeli_decode(place + IMAGE, WONTABELI_IMAGE_SIZE, get(place, FREQUENCY), decoded, WONTABELI_V4X7_DECODE_WORDS) != 0) return 0;
-    if (memcmp(decoded, clocks, WONTABELI_CLOCKS_WORDS * sizeof *clocks) != 0) return 0;
-    if (get(place, ADC_FROM_USBHS) && !get(place, USBHS_PLLRDY)) return 1;
-    return decoded[WONTABELI_V4X7_DECODE_ADC_SOURCE] == clocks[WONTABELI_V4X7_CHECK_ADC_SOURCE] &&
-        decoded[WONTABELI_V4X7_DECODE_ADC_DIVISOR] == clocks[WONTABELI_V4X7_CHECK_ADC_DIVISOR];
+    uint32_t decoded[WONTABELI_CLOCKS_WORDS];
+    if (wontabeli_decode(place + IMAGE, WONTABELI_IMAGE_SIZE, get(place, FREQUENCY), decoded, WONTABELI_CLOCKS_WORDS) != 0) return 0;
+    return memcmp(decoded, clocks, sizeof decoded) == 0;
 }
 
 /* Document 01's steps. Makes the step's writes, or answers whether the reading is what is waited for; at 21 and 28, whether what is compared is the
@@ -242,7 +238,7 @@ static int unworked(const uint8_t *place, size_t lent, uint32_t *clocks)
     phase = place[PHASE];
     if (phase == WONTABELI_PHASE_RUNNING) return 0;
     if (phase >= 21 && phase <= 23) return phase;
-    if (phase != WONTABELI_PHASE_GOING || wontabeli_check(place, PROFILE, clocks, WONTABELI_V4X7_CHECK_WORDS) != 0) return WONTABELI_CODE_NOT_ALLOWED;
+    if (phase != WONTABELI_PHASE_GOING || wontabeli_check(place, PROFILE, clocks, WONTABELI_CHECK_WORDS) != 0) return WONTABELI_CODE_NOT_ALLOWED;
     if (step < 1 || step > LAST_STEP || skips(place, step)) return WONTABELI_CODE_NOT_ALLOWED;
     if (wait_of(step) < WAITS && number_at(place, UNMET) > MOST_UNMET) return WONTABELI_CODE_NOT_ALLOWED;
     if (number_at(place, USED) > MOST_USED) return WONTABELI_CODE_NOT_ALLOWED;
@@ -285,7 +281,7 @@ static void met(uint8_t *place, int wait, uint32_t tick)
 /* A call: its number, and what it leaves in the place. */
 static uint8_t call(uint8_t *place, size_t lent, uint16_t reading, uint32_t tick)
 {
-    uint32_t clocks[WONTABELI_V4X7_CHECK_WORDS];
+    uint32_t clocks[WONTABELI_CHECK_WORDS];
     int number = unworked(place, lent, clocks), step, wait, as_wanted;
     if (number >= 0) return (uint8_t)number;
     step = place[STEP];
@@ -350,7 +346,7 @@ static void some_profile(uint8_t *place)
 /* The place's startup from step 1 to 28 by calls above whose readings are good, so that its image is what it must be there. */
 static void driven(uint8_t *place)
 {
-    uint32_t clocks[WONTABELI_V4X7_CHECK_WORDS];
+    uint32_t clocks[WONTABELI_CHECK_WORDS];
     int calls;
     place[STEP] = 1;
     place[PHASE] = 0;
@@ -360,8 +356,7 @@ static void driven(uint8_t *place)
     for (calls = 0; calls < LAST_STEP && place[STEP] != LAST_STEP; calls++) {
         int step = place[STEP];
         uint32_t sws = step == 4 ? 0 : get(place, SYSTEM_CLOCK), sckmod = clocks[WONTABELI_HCLK] > 100000000;
-        /* step 27 looks at SWS alone, and its ready bits are those that step 28 finds */
-        uint32_t ready = step == 7 ? WONTABELI_HSIRDY : step == 27 ? any() & ALL_READY : ALL_READY;
+        uint32_t ready = step == 7 ? WONTABELI_HSIRDY : ALL_READY;
         call(place, SIZE, (uint16_t)(ready + WONTABELI_SWS * sws + WONTABELI_SCKMOD * sckmod), any());
     }
 }

@@ -6,8 +6,6 @@
 
 #define V1 WONTABELI_V1_FIELDS_SIZE
 
-uint8_t __real_wontabeli_check(const uint8_t *profile, size_t profile_len, uint32_t *out, size_t out_len);
-uint8_t __real_wontabeli_decode(const uint8_t *image, size_t image_len, uint32_t hse, uint32_t *out, size_t out_len);
 uint8_t __real_wontabeli_start(const uint8_t *profile, size_t profile_len, const uint8_t *image, size_t image_len, uint8_t *place, size_t place_len);
 uint8_t __real_wontabeli_step(uint8_t *place, size_t place_len, uint16_t reading, uint32_t tick);
 uint8_t __real_wontabeli_v1_check(uint8_t part, const uint8_t *config, size_t config_len, uint32_t *out, size_t out_len);
@@ -27,86 +25,6 @@ static int mistake(int number)
         chosen = text ? atoi(text) : 0;
     }
     return chosen == number;
-}
-
-/* Mistakes in a ratio, a source and a divisor: the other way round; the rounded frequency over 1; not in lowest terms. */
-static void wrong_ratio(uint32_t *ratio, int exchanged, int rounded, int doubled)
-{
-    uint32_t source = ratio[0], divisor = ratio[1];
-    if (exchanged) {
-        ratio[0] = divisor;
-        ratio[1] = source;
-    }
-    if (rounded && divisor != 0) {
-        ratio[0] = source / divisor;
-        ratio[1] = 1;
-    }
-    if (doubled) {
-        ratio[0] = source * 2;
-        ratio[1] = divisor * 2;
-    }
-}
-
-uint8_t __wrap_wontabeli_check(const uint8_t *profile, size_t profile_len, uint32_t *out, size_t out_len)
-{
-    uint32_t all[WONTABELI_V4X7_CHECK_WORDS], adc;
-    uint8_t number;
-    /* 84: seven and eight lent words refused; 85: eight get the ratio's source; 86: the ratio cleared by a refusal */
-    if (mistake(84) && out_len < WONTABELI_V4X7_CHECK_WORDS)
-        return WONTABELI_OUTPUT_TOO_SHORT;
-    number = __real_wontabeli_check(profile, profile_len, out, out_len);
-    if (mistake(85) && number == 0 && out_len == 8 && __real_wontabeli_check(profile, profile_len, all, WONTABELI_V4X7_CHECK_WORDS) == 0)
-        out[WONTABELI_V4X7_CHECK_ADC_SOURCE] = all[WONTABELI_V4X7_CHECK_ADC_SOURCE];
-    if (out_len < WONTABELI_V4X7_CHECK_WORDS)
-        return number;
-    if (mistake(86) && number != 0)
-        out[WONTABELI_V4X7_CHECK_ADC_SOURCE] = out[WONTABELI_V4X7_CHECK_ADC_DIVISOR] = 0;
-    if (number != 0)
-        return number;
-    wrong_ratio(out + WONTABELI_V4X7_CHECK_ADC_SOURCE, mistake(87), mistake(88), mistake(89));
-    /* 90: the ratio before the ADC's frequency; 91: the word beyond cleared */
-    adc = out[WONTABELI_MORE];
-    if (mistake(90)) {
-        memmove(out + WONTABELI_MORE, out + WONTABELI_V4X7_CHECK_ADC_SOURCE, 2 * sizeof *out);
-        out[WONTABELI_V4X7_CHECK_ADC_DIVISOR] = adc;
-    }
-    if (mistake(91) && out_len > WONTABELI_V4X7_CHECK_WORDS)
-        out[WONTABELI_V4X7_CHECK_WORDS] = 0;
-    return 0;
-}
-
-/* An image's ADCSRC and USBHS_PLLRDY, as bits of its bytes 4 and 1. */
-enum { ADCSRC = 0x20, USBHS_PLLRDY = 0x20 };
-
-uint8_t __wrap_wontabeli_decode(const uint8_t *image, size_t image_len, uint32_t hse, uint32_t *out, size_t out_len)
-{
-    uint8_t number, i[WONTABELI_IMAGE_SIZE] = {0};
-    uint32_t all[WONTABELI_V4X7_DECODE_WORDS], *ratio = out + WONTABELI_V4X7_DECODE_ADC_SOURCE;
-    int whole = image_len == sizeof i && out_len >= WONTABELI_V4X7_DECODE_WORDS;
-    if (image_len == sizeof i)
-        memcpy(i, image, sizeof i);
-    /* 92: six and seven lent words refused; 93: seven get the ratio's source; 94: a PLL that is not ready refused */
-    if (mistake(92) && out_len < WONTABELI_V4X7_DECODE_WORDS)
-        return WONTABELI_OUTPUT_TOO_SHORT;
-    if (mistake(94) && whole && i[4] & ADCSRC && !(i[1] & USBHS_PLLRDY))
-        return WONTABELI_ADC_WITHOUT_USBHS;
-    /* 95: taken for ready; 96: ETH's ready bit in place of USBHS's */
-    if (mistake(95))
-        i[1] |= USBHS_PLLRDY;
-    if (mistake(96))
-        i[1] = (uint8_t)((i[1] & ~USBHS_PLLRDY) | (i[1] << 1 & USBHS_PLLRDY));
-    number = __real_wontabeli_decode(image_len == sizeof i ? i : image, image_len, hse, out, out_len);
-    if (mistake(93) && number == 0 && out_len == 7 && __real_wontabeli_decode(image, image_len, hse, all, WONTABELI_V4X7_DECODE_WORDS) == 0)
-        *ratio = all[WONTABELI_V4X7_DECODE_ADC_SOURCE];
-    if (number != 0 || !whole)
-        return number;
-    wrong_ratio(ratio, mistake(97), mistake(98), mistake(99));
-    /* 100: "not ready" told as 0 over 1; 101: told wherever the USBHS PLL is not ready, also where the ADC runs from HCLK */
-    if (mistake(100) && ratio[1] == 0)
-        ratio[1] = 1;
-    if (mistake(101) && !(i[1] & USBHS_PLLRDY))
-        ratio[0] = ratio[1] = 0;
-    return 0;
 }
 
 uint8_t __wrap_wontabeli_start(const uint8_t *profile, size_t profile_len, const uint8_t *image, size_t image_len, uint8_t *place, size_t place_len)
@@ -287,33 +205,6 @@ static uint8_t wrong_28(uint8_t *place, const uint8_t *before, uint8_t number, u
     return number;
 }
 
-/* Step 28, with the place as it was `before`: mistakes in whether the ADC's ratio is compared. */
-static uint8_t wrong_compare(uint8_t *place, const uint8_t *before, uint8_t number)
-{
-    uint32_t checked[WONTABELI_V4X7_CHECK_WORDS], decoded[WONTABELI_V4X7_DECODE_WORDS];
-    uint32_t hse = number_at(before, 0) << 2 | before[4] >> 6;
-    const uint8_t *image = before + WONTABELI_PLACE_IMAGE;
-    int from_usbhs = (before[8] & 0x40) != 0;
-    if (before[WONTABELI_PLACE_STEP] != 28 || before[WONTABELI_PLACE_PHASE] != WONTABELI_PHASE_GOING || (number != 0 && number != WONTABELI_CLOCKS_DIFFER))
-        return number;
-    if (__real_wontabeli_check(before, WONTABELI_PROFILE_SIZE, checked, WONTABELI_V4X7_CHECK_WORDS) != 0 ||
-        __real_wontabeli_decode(image, WONTABELI_IMAGE_SIZE, hse, decoded, WONTABELI_V4X7_DECODE_WORDS) != 0 ||
-        memcmp(checked, decoded, WONTABELI_CLOCKS_WORDS * sizeof *checked) != 0 ||
-        memcmp(checked + WONTABELI_V4X7_CHECK_ADC_SOURCE, decoded + WONTABELI_V4X7_DECODE_ADC_SOURCE, 2 * sizeof *checked) == 0)
-        return number;
-    /* The ratio alone differs. 102: it is not compared; 103: only where the USBHS PLL feeds the ADC; 104: also where that is not ready */
-    if (number != 0 && (mistake(102) || (mistake(103) && !from_usbhs))) {
-        static const uint8_t running[] = {WONTABELI_PHASE_RUNNING, WONTABELI_REPORT_RUNNING, 0, 28, 0};
-        memcpy(place + WONTABELI_PLACE_PHASE, running, sizeof running);
-        return 0;
-    }
-    if (number == 0 && mistake(104)) {
-        memcpy(place, before, WONTABELI_PLACE_SIZE);
-        return WONTABELI_CLOCKS_DIFFER;
-    }
-    return number;
-}
-
 uint8_t __wrap_wontabeli_step(uint8_t *place, size_t place_len, uint16_t reading, uint32_t tick)
 {
     static uint32_t first_call;
@@ -330,7 +221,7 @@ uint8_t __wrap_wontabeli_step(uint8_t *place, size_t place_len, uint16_t reading
     memcpy(before, place, sizeof before);
     if (before[WONTABELI_PLACE_STEP] == 1)
         first_call = tick;
-    number = wrong_compare(place, before, __real_wontabeli_step(place, place_len, reading, tick));
+    number = __real_wontabeli_step(place, place_len, reading, tick);
     /* 5: the unmet readings forgotten where a wait fails; 6: one of them where step 21 does */
     if (mistake(5) && phase == 0 && place[WONTABELI_PLACE_PHASE] == WONTABELI_WAIT_FAILED)
         memset(place + WONTABELI_PLACE_UNMET, 0, 4);

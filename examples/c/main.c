@@ -135,20 +135,18 @@ static uint8_t decode_v30x(void)
 int main(void)
 {
     static const char *const names[] = {"sysclk", "hclk", "pclk1", "pclk2", "pclk1_tim", "pclk2_tim", "adc"};
-    uint32_t clocks[WONTABELI_V4X7_CHECK_WORDS];
-    uint8_t number = wontabeli_check(profile, sizeof profile, clocks, WONTABELI_V4X7_CHECK_WORDS);
+    uint32_t clocks[WONTABELI_CHECK_WORDS];
+    uint8_t number = wontabeli_check(profile, sizeof profile, clocks, WONTABELI_CHECK_WORDS);
     uint16_t brr = 0;
     int32_t error = 0;
     int i;
     if (number != 0) return refused(number);
     for (i = 0; i < WONTABELI_CHECK_WORDS; i++) printf("%s %lu\n", names[i], (unsigned long)clocks[i]);
-    /* The ADC's frequency, not rounded: who divides it on goes by these two. */
-    printf("adc exactly %lu/%lu\n", (unsigned long)clocks[WONTABELI_V4X7_CHECK_ADC_SOURCE], (unsigned long)clocks[WONTABELI_V4X7_CHECK_ADC_DIVISOR]);
     /* A serial port of the first bus, at 115,200. */
     number = wontabeli_serial_divisor(clocks[WONTABELI_PCLK1], 115200, &brr, &error);
     if (number != 0) return refused(number);
     printf("brr %u error %ld\n", brr, (long)error);
-    printf("nine bytes: refused %u\n", wontabeli_check(profile, 9, clocks, WONTABELI_V4X7_CHECK_WORDS));
+    printf("nine bytes: refused %u\n", wontabeli_check(profile, 9, clocks, WONTABELI_CHECK_WORDS));
     number = decode_v30x();
     if (number != 0) return refused(number);
     return start(1) | start(0);

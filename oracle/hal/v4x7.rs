@@ -32,11 +32,6 @@ pub fn adc(sysclk: u32) -> Option<u32> {
     rcc::v4x7::adc_frequency().map(|hertz| hertz.0)
 }
 
-/// What the ADC divides and by how much, with the clocks that were stored last; None: its PLL is not ready.
-pub fn adc_ratio() -> Option<(u32, u32)> {
-    rcc::v4x7::adc_clock_ratio()
-}
-
 /// The RNG source's frequency; None: its PLL is not ready.
 pub fn rng(sysclk: u32) -> Option<u32> {
     rcc::set_sysclk(sysclk);

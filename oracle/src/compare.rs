@@ -3,7 +3,7 @@
 use crate::answer::{answer, By, Excluding};
 use crate::gen::Queries;
 use crate::panics::quietly;
-use crate::record::{hex, name_of, ratio_in, Answer, Query, ANSWER, BOARD, KINDS, PORT, QUERY, SERIAL, TICKED, TRAY};
+use crate::record::{hex, name_of, Answer, Query, ANSWER, BOARD, KINDS, PORT, QUERY, SERIAL, TICKED, TRAY};
 use crate::summary::Summary;
 use std::io::{BufReader, BufWriter, Read, Write};
 use std::process::{Child, ChildStdout, Command, Stdio};
@@ -121,7 +121,6 @@ pub fn ended_well(child: &mut Child, pipe: &mut BufReader<ChildStdout>) -> Resul
 
 fn show(i: usize, query: &Query, expected: &Answer, by: By, got: Option<&Answer>) {
     let who = match (by, query[0]) {
-        (By::Rust, _) if ratio_in(expected).is_some() => "the Rust, and the ADC's ratio of it by document 02",
         (By::Rust, _) => "the Rust",
         (By::Paper, SERIAL | PORT | BOARD | TRAY | TICKED) => "document 02",
         (By::Paper, _) => "document 01",

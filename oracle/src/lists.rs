@@ -2,7 +2,7 @@
 
 use crate::answer::{answer, By, Excluding};
 use crate::gen::random::Random;
-use crate::gen::{boards, random_query, recorded, recorded_ratios, recorded_ticks, serial};
+use crate::gen::{boards, random_query, recorded, recorded_ticks, serial};
 use crate::powerup;
 use crate::rows;
 use crate::record::{Query, QUERY};
@@ -50,12 +50,10 @@ fn made(seed: u64) -> Lists {
     let mut queries: Vec<Query> = rows::queries().collect();
     queries.extend(recorded(&mut random));
     fill(&mut random, &mut queries);
-    // Random serial divisors come behind what is drawn without them, boards behind both, then startups with ticks, then ADC ratios: what stands before stays as
-    // it was.
+    // Random serial divisors come behind what is drawn without them, boards behind both, and startups with ticks behind all: what stands before stays as it was.
     queries.extend((0..60).map(|_| serial::random(&mut random)));
     queries.extend((0..40).map(|_| boards::random(&mut random)));
     queries.extend(recorded_ticks(&mut random));
-    queries.extend(recorded_ratios(&mut random));
     for (part, wanted) in [By::Rust, By::Paper, By::Manual].into_iter().enumerate() {
         for query in &queries {
             let (expected, by) = answer(query, Excluding { listed: true });

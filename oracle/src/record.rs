@@ -145,27 +145,6 @@ pub fn refused(kind: u8, number: u8) -> Answer {
     a
 }
 
-/// What the ADC divides, and by how much.
-pub type Ratio = (u32, u32);
-
-pub fn ratio_bytes((source, divisor): Ratio) -> [u8; 8] {
-    let mut bytes = [0; 8];
-    bytes[..4].copy_from_slice(&source.to_be_bytes());
-    bytes[4..].copy_from_slice(&divisor.to_be_bytes());
-    bytes
-}
-
-/// The ADC's ratio in an answer that has one.
-pub fn ratio_in(a: &Answer) -> Option<Ratio> {
-    let at = match (a[0], a[1], a[3]) {
-        (CHECK, 0, _) => 30,
-        (DECODE, 0, _) => 26,
-        (TICKED, 0, 1) => 52,
-        _ => return None,
-    };
-    Some((number(&a[at..]), number(&a[at + 4..])))
-}
-
 /// Four bytes, most significant first.
 pub fn number(bytes: &[u8]) -> u32 {
     bytes[..4].iter().fold(0, |sum, byte| sum << 8 | u32::from(*byte))

@@ -10,13 +10,12 @@ use crate::paper::profile::clocks;
 use crate::record::*;
 use crate::rust::checked;
 
-/// A row: its name, the configuration, and what must come: a refusal, or a value at a place among the six clocks, the ADC and its ratio.
+/// A row: its name, the configuration, and what must come: a refusal, or a value at a place among the six clocks and the ADC.
 struct Row(&'static str, [u8; CONFIG], Want);
 
 enum Want {
     Refused(u8),
-    /// The place (0 SYSCLK, 1 HCLK, 3 PCLK2, 5 its timer, 6 ADC) and the frequency; at 7 and 8 the ADC's source and divisor in lowest terms, A6's as
-    /// document 02 has it and the others worked by hand.
+    /// The place (0 SYSCLK, 1 HCLK, 3 PCLK2, 5 its timer, 6 ADC) and the frequency.
     Is(&'static [(usize, u32)]),
 }
 use Want::{Is, Refused};
@@ -61,17 +60,16 @@ fn rows_6_to_11() -> Vec<Row> {
     let a10 = with(5_000_000, &[(SYS, 1), (15, 15), (17, 7)]);
     let a11 = config_of(&[0, 0, 0, 0, 0, 0x18, 0, 0, 0, 0x34]).0;
     vec![
-        Row("A6", a6, Is(&[(0, 100_000_012), (7, 25_000_003), (8, 2)])),
-        Row("A7", a7, Is(&[(0, 166_666_666), (7, 83_333_333), (8, 4)])),
+        Row("A6", a6, Is(&[(0, 100_000_012)])),
+        Row("A7", a7, Is(&[(0, 166_666_666)])),
         Row("A8", a8, Refused(15)),
-        Row("A9 by 2", a9(2), Is(&[(6, 30_000_000), (7, 30_000_000), (8, 1)])),
-        Row("K6, USBHS by 7", a9(7), Is(&[(6, 8_571_428), (7, 60_000_000), (8, 7)])),
+        Row("A9 by 2", a9(2), Is(&[(6, 30_000_000)])),
         Row("A9 by 1", a9(1), Refused(15)),
-        Row("A10", a10, Is(&[(6, 76), (3, 610), (5, 1_220), (7, 78_125), (8, 1_024)])),
+        Row("A10", a10, Is(&[(6, 76), (3, 610), (5, 1_220)])),
         Row(
             "A11",
             a11,
-            Is(&[(0, 20_000_000), (1, 20_000_000), (5, 20_000_000), (6, 2_500_000), (7, 2_500_000), (8, 1)]),
+            Is(&[(0, 20_000_000), (1, 20_000_000), (5, 20_000_000), (6, 2_500_000)]),
         ),
     ]
 }

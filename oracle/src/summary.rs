@@ -15,35 +15,6 @@ pub struct Summary {
     left_out: [LeftOut; 3],
     /// Answers that show ticks of each wait, and those of which the longest is each wait's.
     ticked: [[u64; WAITS.len()]; 2],
-    /// ADC ratios of each of `WITH_RATIO`.
-    ratios: [Ratios; 3],
-}
-
-/// The kinds whose answers have the ADC's ratio.
-const WITH_RATIO: [(u8, &str); 3] = [(CHECK, "check"), (DECODE, "decoder"), (TICKED, "startup, ticks")];
-
-#[derive(Default)]
-struct Ratios {
-    /// From the Rust's source and divisor, and those of them with a divisor above 1 in lowest terms.
-    by_rust: u64,
-    divided: u64,
-    /// 0 over 0, by document 02.
-    not_ready: u64,
-}
-
-impl Ratios {
-    fn add(&mut self, (_, divisor): Ratio) {
-        self.by_rust += u64::from(divisor > 0);
-        self.divided += u64::from(divisor > 1);
-        self.not_ready += u64::from(divisor == 0);
-    }
-
-    fn line(&self, name: &str) -> String {
-        format!(
-            "ADC ratio, {:<14} {:>7} from the Rust's source and divisor, {} of them over more than 1; {} of 0 over 0 by document 02",
-            name, self.by_rust, self.divided, self.not_ready
-        )
-    }
 }
 
 /// The families for which the Rust is not asked AHB codes 12 to 15, and their kinds of query.
@@ -88,9 +59,6 @@ impl Summary {
         if expected[0] == TICKED {
             self.add_ticks(expected);
         }
-        if let Some(ratio) = ratio_in(expected) {
-            self.add_ratio(expected[0], ratio);
-        }
         match by {
             By::Rust => self.by_rust += 1,
             By::Paper => self.by_paper += 1,
@@ -116,11 +84,6 @@ impl Summary {
         }
     }
 
-    fn add_ratio(&mut self, kind: u8, ratio: Ratio) {
-        let at = WITH_RATIO.iter().position(|row| row.0 == kind);
-        self.ratios[at.expect("a kind with a ratio")].add(ratio);
-    }
-
     pub fn print(&self) {
         for ((_, name, refusals), counts) in KINDS.iter().zip(&self.counts) {
             println!("{}", counted(name, counts, refusals));
@@ -130,9 +93,6 @@ impl Summary {
         }
         println!("ticks above 0 of waits {}", by_wait(&self.ticked[0]));
         println!("the longest at waits   {}", by_wait(&self.ticked[1]));
-        for ((_, name), ratios) in WITH_RATIO.iter().zip(&self.ratios) {
-            println!("{}", ratios.line(name));
-        }
         let by_manual: u64 = self.left_out.iter().map(|family| family.queries).sum();
         println!(
             "expected answers: {} from the Rust, {} from documents 01 and 02, {} from the Rust with AHB code 0 and the manuals' table",

@@ -31,8 +31,8 @@ pub use profile::{read_image, write_image, AdcClockSource, Config, Hse};
 pub use refusal::Refusal;
 pub use serial::{serial_divisor, SerialDivisor};
 pub use startup::{call_bound, waits_owed, Chip, FlashKey, KeyRegister, Reading, Report, Startup, WAITS};
-pub use tray::{boards, tray, Board};
-pub use v4x7::{adc_frequency, check, decode, rng_source_frequency, Checked, Decoded, Ratio};
+pub use tray::{boards, tray};
+pub use v4x7::{adc_frequency, check, decode, rng_source_frequency, Checked};
 
 use core::num::NonZeroU32;
 

@@ -1,7 +1,7 @@
 // Made by include/numbers; change what it reads and run it again.
 //! Sizes, places in records, and values of the bytes of a startup: those of include/wontabeli_numbers.h.
 
-// The clocks, by their place in what a check or a decoder gives; MORE is a check's number after them, and H4's.
+// The clocks, by their place in what a check or a decoder gives; MORE is the number after them.
 pub const SYSCLK: usize = 0;
 pub const HCLK: usize = 1;
 pub const PCLK1: usize = 2;
@@ -10,21 +10,11 @@ pub const PCLK1_TIM: usize = 4;
 pub const PCLK2_TIM: usize = 5;
 pub const MORE: usize = 6;
 
-// The ADC's ratio, by its places in what the V4x7 check and decoder give.
-pub const V4X7_CHECK_ADC_SOURCE: usize = 7;
-pub const V4X7_CHECK_ADC_DIVISOR: usize = 8;
-pub const V4X7_DECODE_ADC_SOURCE: usize = 6;
-pub const V4X7_DECODE_ADC_DIVISOR: usize = 7;
-
 // The numbers of crates/capi_give.
 /// The six clocks, in words.
 pub const CLOCKS_WORDS: usize = 6;
 /// The six clocks and one more number, in words.
 pub const CHECK_WORDS: usize = 7;
-/// What the V4x7 check gives, in words: the six clocks, the ADC's frequency, and its ratio. Seven lent words get the first seven.
-pub const V4X7_CHECK_WORDS: usize = 9;
-/// What the V4x7 decoder gives, in words: the six clocks, and the ADC's ratio. Six lent words get the first six.
-pub const V4X7_DECODE_WORDS: usize = 8;
 /// Two numbers, in words.
 pub const PAIR_WORDS: usize = 2;
 

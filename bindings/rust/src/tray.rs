@@ -1,16 +1,7 @@
 use crate::calls::wontabeli_tray;
 use crate::numbers::{BOARD_ADC, BOARD_HCLK, BOARD_NUMBER, BOARD_PCLK1, BOARD_PCLK1_TIM, BOARD_PCLK2, BOARD_PCLK2_TIM};
 use crate::numbers::{BOARD_SIZE, BOARD_SYSCLK, PROFILE_SIZE};
-use crate::{result, Clocks, Refusal};
-
-/// What the record of an accepted board says: the clocks and the ADC's frequency that `check` gives for its profile. A record has no ratio.
-#[derive(Clone, Copy, Debug, PartialEq, Eq)]
-pub struct Board {
-    /// The six clocks.
-    pub clocks: Clocks,
-    /// The ADC's frequency in Hz, rounded down.
-    pub adc: u32,
-}
+use crate::{result, Checked, Clocks, Refusal};
 
 /// Checks the profiles of a tray, which lie back to back, ten bytes each, and writes the record of each board, `BOARD_SIZE` bytes, to the start of `out`.
 /// Gives back the records, which are the part of `out` that was written; the bytes beyond stay. `boards` reads them. A refused board has its refusal in its
@@ -37,13 +28,13 @@ pub fn tray<'a>(profiles: &[u8], out: &'a mut [u8]) -> Result<&'a [u8], Refusal>
     Ok(&out[..profiles.len() / PROFILE_SIZE * BOARD_SIZE])
 }
 
-/// What the records of a tray say, board by board. Fewer than `BOARD_SIZE` bytes at the end are no record, and are left out. A record whose number is no
-/// refusal's, which no tray writes, is given as `CodeNotAllowed`.
-pub fn boards(records: &[u8]) -> impl Iterator<Item = Result<Board, Refusal>> + '_ {
+/// What the records of a tray say, board by board: what `check` gives for each board's profile. Fewer than `BOARD_SIZE` bytes at the end are no record,
+/// and are left out. A record whose number is no refusal's, which no tray writes, is given as `CodeNotAllowed`.
+pub fn boards(records: &[u8]) -> impl Iterator<Item = Result<Checked, Refusal>> + '_ {
     records.chunks_exact(BOARD_SIZE).map(board)
 }
 
-fn board(record: &[u8]) -> Result<Board, Refusal> {
+fn board(record: &[u8]) -> Result<Checked, Refusal> {
     let number = |at: usize| u32::from_be_bytes([record[at], record[at + 1], record[at + 2], record[at + 3]]);
     // A number that has no room in a byte is no refusal's, and neither is 255.
     result(u8::try_from(number(BOARD_NUMBER)).unwrap_or(u8::MAX))?;
@@ -55,5 +46,5 @@ fn board(record: &[u8]) -> Result<Board, Refusal> {
         pclk1_tim: number(BOARD_PCLK1_TIM),
         pclk2_tim: number(BOARD_PCLK2_TIM),
     };
-    Ok(Board { clocks, adc: number(BOARD_ADC) })
+    Ok(Checked { clocks, adc: number(BOARD_ADC) })
 }

@@ -3,7 +3,7 @@
 -- Assumes nothing.
 use Rattle.std.specs.Prelude.{◌≡◌, refl, Bool, true, false, cond, ◌&&◌, List, [], ◌∷◌, ◌++◌, ℕ, zero, suc}
 use Rattle.std.proofs.Common.{◌∙◌, sym, ap}
-use Rattle.answer.specs.Answer.{Answer, gives, refuses, refuse, ◌>>=◌, ◌>>◌, gives_refuses, refuses_gives, same_given}
+use Rattle.answer.specs.Answer.{Answer, gives, refuses, refuse, ◌>>=◌, ◌>>◌, gives_refuses, refuses_gives}
 
 -- a refusal number, and whether its test holds
 abbrev pub Test : Type 0
@@ -166,14 +166,6 @@ pub order_else : {A B : Type 0} {l k : List Test} {v : A} {m : Answer A} {f : A 
     ((a : A) → a ≡ v → InOrder k (f a)) → InOrder (l ++ k) (◌>>=◌ m f)
 order_else {l = l} {k} {v} {m} {f} h g =
     record { goes = ap (λ x. bare (◌>>=◌ x f)) h.is ∙ ap bare (then_bind (first_of l) v f) ∙ then_order l k (g v refl) }
-
--- what it gives, it gives by the list
-pub else_given : {A : Type 0} {l : List Test} {v x : A} {m : Answer A} → OrElse l v m → m ≡ gives x → v ≡ x
-else_given {l = l} {v = v} {x = x} h e = at (first_of l) (sym h.is ∙ e)
-  where
-    at : (p : Answer (Unit {0})) → ◌>>◌ p (gives v) ≡ gives x → v ≡ x
-    at (gives u) q = same_given q
-    at (refuses n) q = refuses_gives q
 
 -- the list alone
 pub else_order : {A : Type 0} {v : A} {l : List Test} {m : Answer A} → OrElse l v m → InOrder l m

@@ -8,7 +8,7 @@ use lib.ListN.{length, take, drop}
 use borrow.Author.Tests.{ne_eqb}
 use lib.Seq.{sets, sets-eq, drop-drop, drop-length}
 use Rattle.answer.specs.Answer.{Answer}
-use Rattle.v4x7.specs.declared.Promise.{Promise}
+use Rattle.v4x7.specs.declared.ClockRecord.{ClockRecord}
 use Rattle.profile.specs.Profile.{check_profile}
 use Rattle.layout.proofs.Filling.{sets_append}
 use Rattle.layout.proofs.Writing.{short, refused, written_to}
@@ -22,7 +22,7 @@ pub sets_whole : (l xs : List ℕ) → length xs ≡ length l → sets l 0 xs �
 sets_whole l xs e = sets-eq xs l 0 (omega arith) ∙ rw (zero-add, e, drop-length) (append-nil xs)
 
 -- the record of a check's answer
-pub its_record : (p xs : List ℕ) {m : Answer Promise} → xs ≡ numbers_of m → m ≡ check_profile p → in_fours xs ≡ board_of p
+pub its_record : (p xs : List ℕ) {m : Answer ClockRecord} → xs ≡ numbers_of m → m ≡ check_profile p → in_fours xs ≡ board_of p
 unfolding board_of
 its_record p xs e q = rw (e, q)
 

@@ -7,13 +7,13 @@ use Rattle.std.proofs.Math.Seq.{drop-append-add}
 use Rattle.answer.specs.Answer.{Answer, gives, refuses, refuse, ◌>>=◌, ◌>>◌, passed}
 use Rattle.answer.specs.declared.Outcome.TheVariants.{Done}
 use Rattle.layout.proofs.Writing.{held}
-use Rattle.v4x7.specs.declared.Promise.{Promise}
+use Rattle.v4x7.specs.declared.ClockRecord.{ClockRecord}
 use Rattle.profile.specs.Profile.{check_profile}
 use Rattle.layout.specs.Numbers.{in_fours}
 use Rattle.boards.specs.Tray.{numbers_of, board_of, boards_in, records_of, tray_of, tray_into, Trayed}
 
 -- a record has 32 bytes
-in_fours_length : (m : Answer Promise) → length (in_fours (numbers_of m)) ≡ 32
+in_fours_length : (m : Answer ClockRecord) → length (in_fours (numbers_of m)) ≡ 32
 in_fours_length (gives x) = refl
 in_fours_length (refuses n) = refl
 
@@ -28,18 +28,18 @@ records_length (suc n) s =
     length-append (board_of (take 10 s)) (records_of n (drop 10 s)) ∙ omega (arith, board_length (take 10 s), records_length n (drop 10 s))
 
 -- record i is that of profile i, whatever the other profiles are
-pub record_at_lem : (n i : ℕ) (s : List ℕ) → i < n → take 32 (drop (32 * i) (records_of n s)) ≡ board_of (take 10 (drop (10 * i) s))
+pub record_at : (n i : ℕ) (s : List ℕ) → i < n → take 32 (drop (32 * i) (records_of n s)) ≡ board_of (take 10 (drop (10 * i) s))
 unfolding records_of
-record_at_lem zero i s h = absurd (omega arith)
-record_at_lem (suc n) zero s h = take_at (board_of (take 10 s)) (records_of n (drop 10 s)) 32 (board_length (take 10 s))
-record_at_lem (suc n) (suc i) s h =
+record_at zero i s h = absurd (omega arith)
+record_at (suc n) zero s h = take_at (board_of (take 10 s)) (records_of n (drop 10 s)) 32 (board_length (take 10 s))
+record_at (suc n) (suc i) s h =
     let first = board_of (take 10 s) in
     let rest = records_of n (drop 10 s) in
     let e : 32 * suc i ≡ length first + 32 * i = omega (arith, board_length (take 10 s)) in
     let f : 10 + 10 * i ≡ 10 * suc i = omega arith in
     ap (λ (k : ℕ). take 32 (drop k (first ++ rest))) e
     ∙ ap (take 32) (drop-append-add first rest (32 * i))
-    ∙ record_at_lem n i (drop 10 s) (omega arith)
+    ∙ record_at n i (drop 10 s) (omega arith)
     ∙ ap (λ (l : List ℕ). board_of (take 10 l)) (drop-drop (10 * i) 10 s ∙ ap (λ (k : ℕ). drop k s) f)
 
 -- boards, and others behind them
@@ -100,7 +100,7 @@ record_lent s {l} i w h =
     let size = records_length n s in
     let left : 32 ≤ length (drop (32 * i) all) = rw length-drop (omega arith) in
     rw (done.lent, e, drop-append-le (32 * i) all (drop (32 * n) l) (omega arith), take-append-le 32 (drop (32 * i) all) (drop (32 * n) l) left)
-    (record_at_lem n i s h)
+    (record_at n i s h)
 
 -- The program lends 65,536 bytes, and reads 20,490 at most: whatever lies beyond these, the tray is answered as the whole of it.
 pub enough_read : (s l : List ℕ) → length l ≡ 65536 → tray_into (take 20490 s) l ≡ tray_into s l

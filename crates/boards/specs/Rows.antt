@@ -5,7 +5,7 @@ use Rattle.std.specs.Prelude.{ℕ, ◌≡◌, refl, List, [], ◌∷◌, ◌++�
 use Rattle.std.proofs.Common.{ap, append-nil}
 use Rattle.answer.specs.Answer.{Answer, gives, refuses}
 use Rattle.answer.specs.Order.{bare}
-use Rattle.v4x7.specs.declared.Promise.{Promise}
+use Rattle.v4x7.specs.declared.ClockRecord.{ClockRecord}
 use Rattle.profile.specs.Profile.{check_profile}
 use Rattle.profile.specs.Rows as rows
 use Rattle.profile.specs.Rows.{a11_profile, a2_profile, divided_profile}
@@ -13,9 +13,9 @@ use Rattle.layout.specs.Numbers.{in_fours}
 use Rattle.boards.specs.Tray.{numbers_of, board_of, records_of, tray_of, tray_into}
 
 -- a board's record, of what its check says
-shown : (p : List ℕ) {m : Answer Promise} → check_profile p ≡ m → board_of p ≡ in_fours (numbers_of m)
+shown : (p : List ℕ) {m : Answer ClockRecord} → check_profile p ≡ m → board_of p ≡ in_fours (numbers_of m)
 unfolding board_of
-shown p e = ap (λ (m : Answer Promise). in_fours (numbers_of m)) e
+shown p e = ap (λ (m : Answer ClockRecord). in_fours (numbers_of m)) e
 
 pub a11_board : board_of a11_profile ≡
     0x00 ∷ 0x00 ∷ 0x00 ∷ 0x00  -- accepted

@@ -5,13 +5,13 @@ use Rattle.answer.specs.Answer.{Answer, gives, refuses, refuse, ◌>>◌}
 use Rattle.answer.specs.declared.Outcome.{Outcome}
 use Rattle.layout.specs.Numbers.{in_fours}
 use Rattle.layout.specs.Lent.{written, Wrote}
-use Rattle.v4x7.specs.declared.Promise.{Promise}
+use Rattle.v4x7.specs.declared.ClockRecord.{ClockRecord}
 use Rattle.profile.specs.Profile.{check_profile}
 
 -- "refusal number or 0, then the seven reported frequencies in the program's order .. zeros after a refusal"
-abbrev pub numbers_of : Answer Promise → List ℕ
+abbrev pub numbers_of : Answer ClockRecord → List ℕ
 numbers_of (gives x) =
-    let k = x.clocks.six in 0 ∷ k.sysclk ∷ k.hclk ∷ k.pclk1 ∷ k.pclk2 ∷ k.pclk1_tim ∷ k.pclk2_tim ∷ x.adc ∷ []
+    0 ∷ x.clocks.sysclk ∷ x.clocks.hclk ∷ x.clocks.pclk1 ∷ x.clocks.pclk2 ∷ x.clocks.pclk1_tim ∷ x.clocks.pclk2_tim ∷ x.adc ∷ []
 numbers_of (refuses n) = n ∷ replicate 7 0
 
 -- the 32 bytes of a board, a function of its profile alone: ".. all eight as four bytes, most significant byte first"

@@ -18,7 +18,7 @@ fn numbers(checked: Checked) -> [u32; 8]
     let Checked::Accepted(accepted) = checked else {
         return [v4x7::refused(checked) as u32, 0, 0, 0, 0, 0, 0, 0];
     };
-    let k = accepted.clocks.six;
+    let k = accepted.clocks;
     [
         0,
         k.sysclk,

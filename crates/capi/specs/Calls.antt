@@ -3,27 +3,20 @@
 use Rattle.std.specs.Prelude.{ℕ, List}
 use Rattle.answer.specs.Answer.{Answer, gives, ◌>>=◌}
 use Rattle.tree.specs.declared.Clocks.{Clocks}
-use Rattle.v4x7_rules.specs.declared.ClockRecord.{ClockRecord}
-use Rattle.v4x7.specs.declared.Promise.{Promise}
+use Rattle.v4x7.specs.declared.ClockRecord.{ClockRecord}
 use Rattle.image.specs.Image.{read_image}
 use Rattle.decoder.specs.Decode.{decode_of}
 use Rattle.decoder.specs.Queries.{Ready, hertz, not_ready, adc_query_of, rng_query_of}
 use Rattle.capi_give.specs.Given.{decoder_hse}
 
--- what a check gives, nine words: the six clocks, the ADC's frequency, and the source and the divisor of its ratio
-abbrev pub nine_of : Answer Promise → Answer (Clocks × ℕ × ℕ × ℕ)
-nine_of m = do
+-- what a check gives, seven words: the six clocks and the ADC's frequency
+abbrev pub seven_of : Answer ClockRecord → Answer (Clocks × ℕ)
+seven_of m = do
   x ← m
-  gives (x.clocks.six, x.adc, x.clocks.ratio.source, x.clocks.ratio.divisor)
-
--- what the decoder gives, eight words: the six clocks, and the source and the divisor of the ADC's ratio, zeros where its PLL is not ready
-abbrev pub eight_of : Answer ClockRecord → Answer (Clocks × ℕ × ℕ)
-eight_of m = do
-  x ← m
-  gives (x.six, x.ratio.source, x.ratio.divisor)
+  gives (x.clocks, x.adc)
 
 -- an image decoded: 31, then the decoder's refusals
-unfoldable pub decode_read : List ℕ → ℕ → Answer ClockRecord
+unfoldable pub decode_read : List ℕ → ℕ → Answer Clocks
 decode_read i hz = do
   f ← read_image i
   decode_of f (decoder_hse hz)

@@ -3,19 +3,20 @@
 // Every call answers by number: 0, or document 01's refusal, and then nothing that was lent is touched.
 ghost use Rattle.std.specs.Prelude.{◌≡◌};
 ghost use Rattle.answer.specs.Said.{reply_says};
-ghost use Rattle.capi_give.specs.Given.{Given, GivenOne, GivenGrown, eight_words, eightfold_says, nine_words, ninefold_says, two_words, twofold_says};
-ghost use Rattle.decoder.specs.Decode.{decoded_says};
+ghost use Rattle.capi_give.specs.Given.{Given, GivenOne, six_words, seven_words, sevenfold_says, two_words, twofold_says};
+ghost use Rattle.tree.specs.Tree.{buses_says};
 ghost use Rattle.decoder.specs.Queries.{query_says};
 ghost use Rattle.profile.specs.Profile.{check_profile};
-ghost use Rattle.capi.specs.Calls.{nine_of, eight_of, decode_read, pair_of, adc_read, rng_read};
+ghost use Rattle.capi.specs.Calls.{seven_of, decode_read, pair_of, adc_read, rng_read};
 ghost use Rattle.capi.specs.Owed.{key_read, waits_read, calls_read};
 
 use answer::Reply;
-use capi_give::{Eightfold, Ninefold, Twofold};
-use decoder::{Decoded, Query};
+use capi_give::{Sevenfold, Twofold};
+use decoder::Query;
 use image::ReadImage;
 use profile::ReadProfile;
 use startup::FlashKey;
+use tree::Buses;
 use v4x7::{Checked, refused};
 
 // The register of the first two keys, KEYR.
@@ -23,70 +24,43 @@ pub const KEYR: u32 = 0;
 // The register of the other two, MODEKEYR.
 pub const MODEKEYR: u32 = 1;
 
-fn check(from: &[u8]) -> Ninefold
-    ensures { ninefold_says result ≡ nine_of (check_profile from.now) }
+fn check(from: &[u8]) -> Sevenfold
+    ensures { sevenfold_says result ≡ seven_of (check_profile from.now) }
 {
     let checked = profile::check_profile(from);
     let Checked::Accepted(accepted) = checked else {
-        return Ninefold::Refused(refused(checked));
+        return Sevenfold::Refused(refused(checked));
     };
-    let record = accepted.clocks;
-    let clocks = record.six;
+    let clocks = accepted.clocks;
     let more = accepted.adc;
-    let source = record.ratio.source;
-    let divisor = record.ratio.divisor;
-    Ninefold::Are {
-        clocks,
-        more,
-        source,
-        divisor,
-    }
+    Sevenfold::Are { clocks, more }
 }
 
-// Checks a profile of ten bytes. Gives nine words: SYSCLK, HCLK, PCLK1, PCLK2, their timers' clocks, the ADC's frequency, and its ratio in lowest
-// terms, the source at word 7 and the divisor at word 8. Seven or eight lent words get the first seven.
-// Refused by 32 (fewer than seven are lent), 29, 30, then by the check's 1 to 16.
+// Checks a profile of ten bytes. Gives seven words: SYSCLK, HCLK, PCLK1, PCLK2, their timers' clocks, and the ADC's frequency.
+// Refused by 32, 29, 30, then by the check's 1 to 16.
 #[unsafe(no_mangle)]
 pub extern "C" fn wontabeli_check(from: &[u8], out: &mut [u32]) -> u8
-    ensures { GivenGrown 7 9 (nine_words (nine_of (check_profile from.now))) out.old out.new result }
+    ensures { Given 7 (seven_words (seven_of (check_profile from.now))) out.old out.new result }
 {
-    capi_give::give_nine(check(from), out)
+    capi_give::give_seven(check(from), out)
 }
 
-// A decoder's answer as eight words.
-fn eight(decoded: Decoded) -> Eightfold
-    ensures { eightfold_says result ≡ eight_of (decoded_says decoded) }
-{
-    match decoded {
-        Decoded::Refused(n) => Eightfold::Refused(n),
-        Decoded::Run(record) => {
-            let clocks = record.six;
-            Eightfold::Are {
-                clocks,
-                source: record.ratio.source,
-                divisor: record.ratio.divisor,
-            }
-        }
-    }
-}
-
-fn decode(from: &[u8], hz: u32) -> Eightfold
-    ensures { eightfold_says result ≡ eight_of (decode_read from.now hz) }
+fn decode(from: &[u8], hz: u32) -> Buses
+    ensures { buses_says result ≡ decode_read from.now hz }
 {
     match image::read_image(from) {
-        ReadImage::Refused(n) => Eightfold::Refused(n),
-        ReadImage::Image(fields) => eight(decoder::decode(fields, capi_give::decoder_hse(hz))),
+        ReadImage::Refused(n) => Buses::Refused(n),
+        ReadImage::Image(fields) => decoder::decode(fields, capi_give::decoder_hse(hz)),
     }
 }
 
-// Decodes an image of eight bytes, with HSE's frequency; 0 says that there is none. Gives eight words: SYSCLK, HCLK, PCLK1, PCLK2, their timers'
-// clocks, and the ADC's ratio in lowest terms, the source at word 6 and the divisor at word 7; zeros where the PLL that the ADC runs from is not ready.
-// Six or seven lent words get the first six. Refused by 32 (fewer than six are lent), 31, then by the decoder's numbers.
+// Decodes an image of eight bytes, with HSE's frequency; 0 says that there is none. Gives six words: SYSCLK, HCLK, PCLK1, PCLK2, their timers'
+// clocks. Refused by 32, 31, then by the decoder's numbers.
 #[unsafe(no_mangle)]
 pub extern "C" fn wontabeli_decode(from: &[u8], hz: u32, out: &mut [u32]) -> u8
-    ensures { GivenGrown 6 8 (eight_words (eight_of (decode_read from.now hz))) out.old out.new result }
+    ensures { Given 6 (six_words (decode_read from.now hz)) out.old out.new result }
 {
-    capi_give::give_eight(decode(from, hz), out)
+    capi_give::give_six(decode(from, hz), out)
 }
 
 // A query's answer as two words.

@@ -12,7 +12,7 @@ use lib.ListN.{take, drop, get_or}
 use Rattle.answer.specs.Answer.{Answer, gives, refuses, bound, same_given}
 use Rattle.answer.specs.Tools.{false_true, either}
 use Rattle.v4x7.specs.declared.Config.{Config}
-use Rattle.v4x7.specs.declared.Promise.{Promise}
+use Rattle.v4x7.specs.declared.ClockRecord.{ClockRecord}
 use Rattle.v4x7.specs.Check.{named_of, check_of}
 use Rattle.profile.specs.Profile.{read_profile}
 use Rattle.image.specs.declared.Fields.{Fields}
@@ -98,7 +98,7 @@ came next s f misread = (inr refl, refl)
 came next s f (compared true) = (tt, refl)
 came next s f (compared false) = (inl refl, refl)
 
-by_phase : (s : Startup) (r : Reading) (bad : Bool) (check : Answer Promise) (p : Phase) → KnownIn p →
+by_phase : (s : Startup) (r : Reading) (bad : Bool) (check : Answer ClockRecord) (p : Phase) → KnownIn p →
     Fair s (cond bad (handed_back s) (step_by check s r p))
 by_phase s r true check p k = (inr refl, refl)
 by_phase s r false check (Over last) k = (k, refl)

@@ -10,7 +10,7 @@ use lib.ListN.{length, take, drop, take-append-drop}
 use Rattle.answer.specs.Answer.{Answer, gives, refuses, refuse, ◌>>=◌, ◌>>◌, bound, same_given}
 use Rattle.answer.specs.Tools.{true_false, neither}
 use Rattle.layout.specs.Layout.{packed}
-use Rattle.v4x7.specs.declared.Promise.{Promise}
+use Rattle.v4x7.specs.declared.ClockRecord.{ClockRecord}
 use Rattle.v4x7.specs.Check.{named_of, check_of}
 use Rattle.image.specs.declared.Fields.{Fields}
 use Rattle.image.specs.Image.{widths, list_of, in_width, image_bytes}
@@ -59,7 +59,7 @@ came next s f missed h = last_ends _ h
 came next s f misread h = last_ends _ h
 came next s f (compared same) h = last_ends _ h
 
-by_phase : (s : Startup) (r : Reading) (bad : Bool) (check : Answer Promise) (p : Phase) → s.phase ≡ p →
+by_phase : (s : Startup) (r : Reading) (bad : Bool) (check : Answer ClockRecord) (p : Phase) → s.phase ≡ p →
     Ended (cond bad (handed_back s) (step_by check s r p))
 by_phase s r true check p e h = true_false h
 by_phase s r false check (Over last) e h = subst (λ (p : Phase). Ends p last) (sym e) (last_ends last h)

@@ -1,17 +1,16 @@
 -- The numbers that the calls for C and Rust return: each is the first of its list. Assumes nothing.
-use Prim.Native.Nat.{ℕ, zero, suc, ◌≤◌}
-use mathlib.Core.Path.{◌≡◌, ◌∙◌, refl, sym, ap}
+use Prim.Native.Nat.{ℕ, zero, suc}
+use mathlib.Core.Path.{◌≡◌, ◌∙◌, refl, ap}
 use mathlib.Core.Bool.{Bool, true, false, not}
 use mathlib.Core.List.{List, [], ◌∷◌}
 use native.Mathlib.Omega.{arith}
-use borrow.Author.Tests.{ltb_false, le-ltb, le-leb}
+use borrow.Author.Tests.{le-leb}
 use lib.Dec.{leb, ltb}
 use lib.IntN.{ℤ}
 use lib.ListN.{length, take, drop}
 use Rattle.answer.specs.Answer.{Answer, gives, refuses, refuse, ◌>>◌}
 use Rattle.answer.specs.Order.{Test, first_of, bare, InOrder, order_gives, order_then, order_behind, else_order}
 use Rattle.answer.specs.Lists.{order_map}
-use Rattle.answer.specs.Tools.{by_cond}
 use Rattle.divider.specs.declared.Family.TheVariants.{H4}
 use Rattle.divider.specs.Frequency.{whole}
 use Rattle.divider.specs.Divide.{by_ahb_of}
@@ -30,7 +29,7 @@ use Rattle.startup.specs.Order.{append_none, owed_goes, calls_goes}
 use Rattle.h4.specs.Order as order4
 use Rattle.serial.specs.Order.{divisor_tests, divisor_in_order}
 use Rattle.boards.specs.Order.{tray_tests, tray_in_order}
-use Rattle.capi_give.specs.Given.{decoder_hse, Given, grown_to, first_words, number_in}
+use Rattle.capi_give.specs.Given.{decoder_hse, Given, number_in}
 use Rattle.demands.specs.First.{wide}
 use Rattle.demands.proofs.First.{demand1}
 use Rattle.capi.specs.Calls as capi
@@ -42,7 +41,7 @@ use Rattle.capi_v1.specs.Order as order1
 use Rattle.capi_v30x.specs.Order as order30
 use Rattle.capi_h4.specs.Order.{clocks_call_in_order, pclk_call_in_order}
 use Rattle.capi_serial.specs.Calls.{GivenSerial}
-use Rattle.capi_demands.specs.First.{Through, ThroughGrown, ThroughOne, ThroughTwo, refusing, SerialGoes, TrayGoes, Demand1InC}
+use Rattle.capi_demands.specs.First.{Through, ThroughOne, ThroughTwo, refusing, SerialGoes, TrayGoes, Demand1InC}
 use Rattle.capi_demands.proofs.Called.{number_bare, through_place}
 
 -- ---- from an answer to the number returned
@@ -54,20 +53,6 @@ returned {n} {m} tests h l l' r g = g.number ∙ number_bare (written n m l) ∙
 through : {n : ℕ} {m : Answer (List ℕ)} {tests : List Test} → InOrder tests m → Through n m tests
 through {n} {m} {tests} h l l' r g =
     g.number ∙ number_bare (written n m l) ∙ ap number_in (written_in_order n m l tests h.goes)
-
--- 32 of a record that has grown: so many lent words are too few exactly if they were before
-too_few : (old new lent : ℕ) → old ≤ new → ltb lent (grown_to old new lent) ≡ ltb lent old
-too_few old new lent h =
-    by_cond (λ n. ltb lent n ≡ ltb lent old) (ltb lent new) old new (λ t. refl)
-    (λ t. t ∙ sym (le-ltb lent old (let e = ltb_false lent new t in omega arith)))
-
-through_grown : {old new : ℕ} {m : Answer (List ℕ)} {tests : List Test} → old ≤ new → InOrder tests m → ThroughGrown old new m tests
-through_grown {old} {new} {m} {tests} h o l l' r g =
-    let n = grown_to old new (length l) in
-    let first = first_words n m in (
-      through {n = n} {m = first} {tests = tests} (order_map _ m o) l l' r g.given ∙ ap (λ t. number_in (first_of ((32, t) ∷ tests))) (too_few old new (length l) h),
-      demand1.call n first l l' r g.given,
-    )
 
 through_one : {m : Answer ℕ} {tests : List Test} → InOrder tests m → ThroughOne m tests
 through_one {m} h x x' r g = g.number ∙ number_bare m ∙ ap number_in h.goes
@@ -125,11 +110,9 @@ pub demand1_in_c : Demand1InC
 unfolding capi.decode_read capi.adc_read capi.rng_read profile_fields profile_from image_fields image_from waits_read calls_read
     start_bytes
 demand1_in_c = record {
-  check = λ p.
-      through_grown (omega arith) (order_map _ (capi.nine_of (profile.check_profile p)) (order_map _ (profile.check_profile p) (checks p)));
+  check = λ p. through (order_map _ (capi.seven_of (profile.check_profile p)) (order_map _ (profile.check_profile p) (checks p)));
   decode = λ i hz.
-      through_grown (omega arith) (order_map _ (capi.eight_of (capi.decode_read i hz)) (order_map _ (capi.decode_read i hz)
-      (order_behind (image.read_image i) (images i) (λ f. record { goes = decode_in_order f (decoder_hse hz) }))));
+      through (order_map _ (capi.decode_read i hz) (order_behind (image.read_image i) (images i) (λ f. record { goes = decode_in_order f (decoder_hse hz) })));
   adc = λ i sys.
       through (order_map _ (capi.pair_of (capi.adc_read i sys)) (order_map _ (capi.adc_read i sys)
       (order_behind (image.read_image i) (images i) (λ f. record { goes = adc_in_order f sys }))));

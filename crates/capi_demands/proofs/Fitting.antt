@@ -5,7 +5,7 @@ use mathlib.Core.Bool.{Bool, true, false, cond, not, ◌||◌}
 use borrow.Author.Tests.{not-false}
 use Rattle.answer.specs.Answer.{Answer, gives, refuses}
 use Rattle.answer.specs.Tools.{true_false, neither}
-use Rattle.v4x7.specs.declared.Promise.{Promise}
+use Rattle.v4x7.specs.declared.ClockRecord.{ClockRecord}
 use Rattle.v4x7.specs.Check.{named_of, check_of}
 use Rattle.image.specs.Image.{in_width}
 use Rattle.image.specs.Width.{wide, in_width_lem}
@@ -22,13 +22,13 @@ module _ (s : Startup) (r : Reading) where
   abbrev Fits : Stepped → Type 0
   Fits x = leaves_as_it_was x.report ≡ false → in_width x.startup.fields ≡ true
 
-  accepted : {x : Promise} → check_of s.config ≡ gives x → in_width s.fields ≡ true → in_width (step_of s r).startup.fields ≡ true
+  accepted : {x : ClockRecord} → check_of s.config ≡ gives x → in_width s.fields ≡ true → in_width (step_of s r).startup.fields ≡ true
   accepted q w =
       let so : Sound s.config q s = (refl, wide s.fields w) in
       ap (λ (x : Stepped). in_width x.startup.fields) (same_step s.config q s r so)
       ∙ in_width_lem _ (stays_sound s.config q s r so).1
 
-  by_phase : (p : Phase) (check : Answer Promise) → check_of s.config ≡ check → in_width s.fields ≡ true → step_of s r ≡ step_by check s r p →
+  by_phase : (p : Phase) (check : Answer ClockRecord) → check_of s.config ≡ check → in_width s.fields ≡ true → step_of s r ≡ step_by check s r p →
       Fits (step_of s r)
   by_phase p (gives x) q w e h = accepted q w
   by_phase (Over last) (refuses n) q w e h = ap (λ (x : Stepped). in_width x.startup.fields) e ∙ w

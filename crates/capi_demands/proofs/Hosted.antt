@@ -11,7 +11,7 @@ use Rattle.answer.specs.Answer.{Answer, gives}
 use Rattle.layout.specs.Layout.{Bytes}
 use Rattle.layout.specs.Lent.{written, after}
 use Rattle.v4x7.specs.declared.Config.{Config}
-use Rattle.v4x7.specs.declared.Promise.{Promise}
+use Rattle.v4x7.specs.declared.ClockRecord.{ClockRecord}
 use Rattle.v4x7.specs.Check.{check_of}
 use Rattle.profile.specs.Profile.{read_profile}
 use Rattle.image.specs.declared.Fields.{Fields}
@@ -49,7 +49,7 @@ use Rattle.capi_demands.proofs.Ended.{Ends, ends_then, three_numbers, over_by_it
 given_all : (b l l' : List ℕ) (k : ℕ) (m : Answer (List ℕ)) → 72 ≤ length l → m ≡ gives b → Given 72 m l l' k → (k ≡ 0) × (l' ≡ b ++ drop 72 l)
 given_all b l l' k m h e g = ((rw (le-ltb (length l) 72 h, e) at g.number), (rw (le-ltb (length l) 72 h, e) at g.lent))
 
-module _ (c : Config) {x : Promise} (q : check_of c ≡ gives x) (p : List ℕ) (reads : read_profile p ≡ gives c) (rest : List ℕ) where
+module _ (c : Config) {x : ClockRecord} (q : check_of c ≡ gives x) (p : List ℕ) (reads : read_profile p ≡ gives c) (rest : List ℕ) where
   ten : length p ≡ 10
   ten = read_length p c reads
 
@@ -114,7 +114,7 @@ module _ (c : Config) {x : Promise} (q : check_of c ≡ gives x) (p : List ℕ) 
       each_call n (λ k. ws (suc k)) (λ k. ts (suc k)) (λ k. rs (suc k)) (λ k. m (suc k)) y.place y.report (λ k. small (suc k))
       (call t report (m 0) (m 1) (ws 0) (ts 0) (rs 0) (small 0) held (g 0)).1 (λ k. g (suc k))
 
-module _ (c : Config) {x : Promise} (q : check_of c ≡ gives x) (p i : List ℕ) (reads : read_profile p ≡ gives c) (low : Bytes i)
+module _ (c : Config) {x : ClockRecord} (q : check_of c ≡ gives x) (p i : List ℕ) (reads : read_profile p ≡ gives c) (low : Bytes i)
     (f : Fields) (imaged : read_image i ≡ gives f) where
   abbrev begins : Ticked
   begins = begun_with (begun c f)

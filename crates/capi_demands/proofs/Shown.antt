@@ -10,7 +10,7 @@ use lib.ListN.{length, take, drop, get_or, length-append, take-append-drop}
 use Rattle.answer.specs.Answer.{Answer, gives, refuses, bound, same_given}
 use Rattle.answer.specs.Tools.{true_false, false_true, cases}
 use Rattle.layout.specs.Layout.{packed}
-use Rattle.v4x7.specs.declared.Promise.{Promise}
+use Rattle.v4x7.specs.declared.ClockRecord.{ClockRecord}
 use Rattle.v4x7.specs.Check.{named_of, check_of}
 use Rattle.profile.specs.Profile.{read_profile}
 use Rattle.image.specs.declared.Fields.{Fields}
@@ -59,7 +59,7 @@ came next s f missed h = refl
 came next s f misread h = refl
 came next s f (compared same) h = refl
 
-by_phase : (s : Startup) (r : Reading) (bad : Bool) (check : Answer Promise) (p : Phase) → s.phase ≡ p →
+by_phase : (s : Startup) (r : Reading) (bad : Bool) (check : Answer ClockRecord) (p : Phase) → s.phase ≡ p →
     Shown (cond bad (handed_back s) (step_by check s r p))
 by_phase s r true check p e h = true_false h
 by_phase s r false check (Over last) e h = subst (λ (p : Phase). Agrees p last) (sym e) refl

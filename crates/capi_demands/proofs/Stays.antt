@@ -11,7 +11,7 @@ use lib.ListN.{length, drop, length-drop}
 use Rattle.answer.specs.Answer.{Answer, gives, refuses, ◌>>◌, followed, passed, same_given}
 use Rattle.answer.specs.Tools.{by_cond}
 use Rattle.v4x7.specs.declared.Config.{Config}
-use Rattle.v4x7.specs.declared.Promise.{Promise}
+use Rattle.v4x7.specs.declared.ClockRecord.{ClockRecord}
 use Rattle.v4x7.specs.Check.{named_of, check_of}
 use Rattle.image.specs.declared.Fields.{Fields}
 use Rattle.image.specs.Image.{in_width}
@@ -74,7 +74,7 @@ module _ (k : Ticks) (ticks : Small k) where
         record { step = st.step; unmet = st.unmet; used = omega arith; phase = (inr refl, refl, refl); first = ticks.0; waits = ticks.1 }
     came next f n (ends {same} h) = compared_so next f same
 
-    by_phase : (b : Bool) (a : Answer Promise) (r : Reading) (h : Phase) → Stored (cond b (handed_back s) (step_by a s r h)).startup
+    by_phase : (b : Bool) (a : Answer ClockRecord) (r : Reading) (h : Phase) → Stored (cond b (handed_back s) (step_by a s r h)).startup
     by_phase true a r h = st
     by_phase false a r (Over last) = st
     by_phase false (refuses n) r Going = st

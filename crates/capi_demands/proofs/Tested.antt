@@ -9,7 +9,7 @@ use borrow.Author.Tests.{eqb-true}
 use lib.Dec.{eqb}
 use Rattle.answer.specs.Answer.{Answer, gives, refuses}
 use Rattle.answer.specs.Order.{Test, first_of}
-use Rattle.v4x7.specs.declared.Promise.{Promise}
+use Rattle.v4x7.specs.declared.ClockRecord.{ClockRecord}
 use Rattle.v4x7.specs.Check.{named_of, check_of}
 use Rattle.image.specs.Image.{in_width}
 use Rattle.startup.specs.declared.Reading.{Reading}
@@ -54,7 +54,7 @@ module _ (s : Startup) (r : Reading) where
   abbrev number : ℕ
   number = number_of (step_of s r).report
 
-  going : s.phase ≡ Going → (check : Answer Promise) → check_of s.config ≡ check → number ≡ number_in (first_of (called_tests s r))
+  going : s.phase ≡ Going → (check : Answer ClockRecord) → check_of s.config ≡ check → number ≡ number_in (first_of (called_tests s r))
   going e (gives x) q =
       told_number number (eqb number 0) (eqb-true number 0) ∙ ap number_in (step_in_order s r e q) ∙ rw (e, q)
   going e (refuses n) q = ap (λ (x : Stepped). number_of x.report) (unaccepted_28 s r e q) ∙ rw (e, q)

@@ -3,18 +3,18 @@
 -- Assumes nothing.
 use Rattle.std.specs.Prelude.{ℕ, ◌≡◌, List, ◌∷◌, replicate}
 use Rattle.answer.specs.Answer.{Answer, gives, refuses}
-use Rattle.v4x7.specs.declared.Promise.{Promise}
+use Rattle.v4x7.specs.declared.ClockRecord.{ClockRecord}
 use Rattle.profile.specs.Profile.{check_profile}
 use Rattle.layout.specs.Numbers.{in_fours}
 use Rattle.boards.specs.Tray.{numbers_of, board_of}
-use Rattle.capi_give.specs.Given.{GivenGrown, nine_words}
-use Rattle.capi.specs.Calls.{nine_of}
+use Rattle.capi_give.specs.Given.{Given, seven_words}
+use Rattle.capi.specs.Calls.{seven_of}
 
-pub as_alone : (p words : List ℕ) (number : ℕ) → GivenGrown 7 9 (nine_words (nine_of (check_profile p))) (replicate 7 0) words number →
+pub as_alone : (p words : List ℕ) (number : ℕ) → Given 7 (seven_words (seven_of (check_profile p))) (replicate 7 0) words number →
     board_of p ≡ in_fours (number ∷ words)
 unfolding board_of
 as_alone p words number g = of_check (check_profile p) g
   where
-    of_check : (m : Answer Promise) → GivenGrown 7 9 (nine_words (nine_of m)) (replicate 7 0) words number → in_fours (numbers_of m) ≡ in_fours (number ∷ words)
-    of_check (gives x) g = rw (g.given.number, g.given.lent)
-    of_check (refuses n) g = rw (g.given.number, g.given.lent)
+    of_check : (m : Answer ClockRecord) → Given 7 (seven_words (seven_of m)) (replicate 7 0) words number → in_fours (numbers_of m) ≡ in_fours (number ∷ words)
+    of_check (gives x) g = rw (g.number, g.lent)
+    of_check (refuses n) g = rw (g.number, g.lent)

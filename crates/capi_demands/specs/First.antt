@@ -1,8 +1,7 @@
 -- The user's first demand, of the calls for C and Rust: what each returns is the number of the first test of its list that holds, and 0 where none
 -- does. The lists are those of `Demand1`, put together: 32 where memory with a length is lent, then the tests of what reads the bytes handed in,
--- then those of the call behind it, over what was read. That a refusal leaves what was lent is `Demand1`'s `call` and `call_one`, of two lent numbers
--- `ThroughTwo`, and of a record that has grown `ThroughGrown`; that two results of a call are equal, `given_settled`, `given_one_settled`,
--- `given_grown_settled` and `given_serial_settled`.
+-- then those of the call behind it, over what was read. That a refusal leaves what was lent is `Demand1`'s `call` and `call_one`, and of two lent numbers
+-- `ThroughTwo`; that two results of a call are equal, `given_settled`, `given_one_settled` and `given_serial_settled`.
 -- Assumes nothing.
 use Rattle.std.specs.Prelude.{ℕ, ◌*◌, ◌≡◌, Bool, true, false, not, List, [], ◌∷◌, ◌++◌, ltb, ℤ, length, take, drop}
 use Rattle.answer.specs.Answer.{Answer, gives, refuses}
@@ -24,7 +23,7 @@ use Rattle.serial.specs.Serial.{divisor_of}
 use Rattle.serial.specs.Order.{divisor_tests}
 use Rattle.boards.specs.Tray.{boards_in, tray_of}
 use Rattle.boards.specs.Order.{length_tests}
-use Rattle.capi_give.specs.Given.{decoder_hse, Given, GivenOne, GivenGrown, number_in, two_words, six_words, seven_words, eight_words, nine_words}
+use Rattle.capi_give.specs.Given.{decoder_hse, Given, GivenOne, number_in, two_words, six_words, seven_words}
 use Rattle.demands.specs.First.{wide}
 use Rattle.capi.specs.Calls as capi
 use Rattle.capi.specs.Owed.{key_read, waits_read, calls_read}
@@ -42,12 +41,6 @@ use Rattle.capi_serial.specs.Calls.{GivenSerial}
 -- a call that gives a record m of n words or bytes through lent ones: 32 first
 abbrev pub Through : ℕ → Answer (List ℕ) → List Test → Type 0
 Through n m tests = (l l' : List ℕ) (r : ℕ) → Given n m l l' r → r ≡ number_in (first_of ((32, ltb (length l) n) ∷ tests))
-
--- one whose record m has grown from `old` words to `new`: 32 where fewer are lent than before. However many are lent, with a refusal number returned
--- they are as they were.
-abbrev pub ThroughGrown : ℕ → ℕ → Answer (List ℕ) → List Test → Type 0
-ThroughGrown old new m tests = (l l' : List ℕ) (r : ℕ) → GivenGrown old new m l l' r →
-    (r ≡ number_in (first_of ((32, ltb (length l) old) ∷ tests))) × ((r ≡ 0 → ⊥) → l' ≡ l)
 
 -- one that gives a number through one lent word
 abbrev pub ThroughOne : Answer ℕ → List Test → Type 0
@@ -77,10 +70,9 @@ TrayGoes = (s : List ℕ) → Through (32 * boards_in s) (tray_of s) (length_tes
 
 pub record Demand1InC : Type 0 where
   -- V4x7: the check, the decoder, the queries, behind the readers of profile and image
-  pub check : (p : List ℕ) → ThroughGrown 7 9 (nine_words (capi.nine_of (profile.check_profile p))) (profileOrder.check_profile_tests p)
+  pub check : (p : List ℕ) → Through 7 (seven_words (capi.seven_of (profile.check_profile p))) (profileOrder.check_profile_tests p)
   pub decode : (i : List ℕ) (hz : ℕ) →
-      ThroughGrown 6 8 (eight_words (capi.eight_of (capi.decode_read i hz)))
-      (imageOrder.read_tests i ++ behind (image.read_image i) (λ f. decode_tests f (decoder_hse hz)))
+      Through 6 (six_words (capi.decode_read i hz)) (imageOrder.read_tests i ++ behind (image.read_image i) (λ f. decode_tests f (decoder_hse hz)))
   pub adc : (i : List ℕ) (sys : ℕ) →
       Through 2 (two_words (capi.pair_of (capi.adc_read i sys))) (imageOrder.read_tests i ++ behind (image.read_image i) query_tests)
   pub rng : (i : List ℕ) (sys : ℕ) →

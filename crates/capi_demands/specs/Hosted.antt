@@ -3,9 +3,9 @@
 use Rattle.std.specs.Prelude.{ℕ, suc, ◌≤◌, ◌≡◌, ◌⊎◌, List, length, drop, get_or}
 use Rattle.answer.specs.Answer.{gives}
 use Rattle.layout.specs.Layout.{Bytes}
-use Rattle.v4x7_rules.specs.declared.ClockRecord.{ClockRecord}
+use Rattle.tree.specs.declared.Clocks.{Clocks}
 use Rattle.v4x7.specs.declared.Config.{Config}
-use Rattle.v4x7.specs.declared.Promise.{Promise}
+use Rattle.v4x7.specs.declared.ClockRecord.{ClockRecord}
 use Rattle.v4x7.specs.Check.{check_of}
 use Rattle.profile.specs.Profile.{read_profile}
 use Rattle.image.specs.declared.Fields.{Fields}
@@ -53,7 +53,7 @@ abbrev pub told : Config → Fields → Calls → ℕ → Report
 told c f h n = (stepped_in (after c f h n) (h n).0 (h n).1).report
 
 -- What the host is served.
-pub record Served (p : List ℕ) (c : Config) (promised : ClockRecord) (f : Fields) (rest : List ℕ) (h : Calls)
+pub record Served (p : List ℕ) (c : Config) (promised : Clocks) (f : Fields) (rest : List ℕ) (h : Calls)
     (r : ℕ) (rs : ℕ → ℕ) (m : ℕ → List ℕ) : Type 0 where
   -- The start returns 0, and each call its report's number: 0, 21 or 22.
   pub started : r ≡ 0
@@ -77,7 +77,7 @@ pub record Served (p : List ℕ) (c : Config) (promised : ClockRecord) (f : Fiel
 abbrev pub Demand3InC : Type 0
 Demand3InC =
     (p i l : List ℕ) → Bytes i → 72 ≤ length l →
-    (c : Config) → read_profile p ≡ gives c → (x : Promise) → check_of c ≡ gives x → (f : Fields) → read_image i ≡ gives f →
+    (c : Config) → read_profile p ≡ gives c → (x : ClockRecord) → check_of c ≡ gives x → (f : Fields) → read_image i ≡ gives f →
     (ws ts : ℕ → ℕ) → ((n : ℕ) → Word (ts n)) → (r : ℕ) (rs : ℕ → ℕ) (m : ℕ → List ℕ) → Hosts p i l ws ts r rs m →
     Served p c x.clocks f (drop 72 l) (handed ws ts) r rs m
 

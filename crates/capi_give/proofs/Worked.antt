@@ -5,9 +5,7 @@ use mathlib.Core.List.{[], ◌∷◌}
 use Rattle.answer.specs.Answer.{gives}
 use Rattle.tree.specs.declared.Clocks.{Clocks}
 use Rattle.capi_give.specs.declared.Sevenfold.TheVariants as seven
-use Rattle.capi_give.specs.declared.Eightfold.TheVariants as eight
-use Rattle.capi_give.specs.declared.Ninefold.TheVariants as nine
-use Rattle.capi_give.specs.Given.{six_words, seven_words, sevenfold_says, eight_words, eightfold_says, nine_words, ninefold_says}
+use Rattle.capi_give.specs.Given.{six_words, seven_words, sevenfold_says}
 
 abbrev clocks : Clocks
 clocks = record { sysclk = 1; hclk = 2; pclk1 = 3; pclk2 = 4; pclk1_tim = 5; pclk2_tim = 6 }
@@ -18,10 +16,3 @@ six_words_lem = refl
 -- and one more number behind them
 pub seven_words_lem : seven_words (sevenfold_says (seven.Are clocks 7)) ≡ gives (1 ∷ 2 ∷ 3 ∷ 4 ∷ 5 ∷ 6 ∷ 7 ∷ [])
 seven_words_lem = refl
-
--- the clocks, then the source and the divisor of a ratio; with one more number between them
-pub eight_words_lem : eight_words (eightfold_says (eight.Are clocks 7 8)) ≡ gives (1 ∷ 2 ∷ 3 ∷ 4 ∷ 5 ∷ 6 ∷ 7 ∷ 8 ∷ [])
-eight_words_lem = refl
-
-pub nine_words_lem : nine_words (ninefold_says (nine.Are clocks 7 8 9)) ≡ gives (1 ∷ 2 ∷ 3 ∷ 4 ∷ 5 ∷ 6 ∷ 7 ∷ 8 ∷ 9 ∷ [])
-nine_words_lem = refl

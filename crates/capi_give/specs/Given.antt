@@ -1,6 +1,6 @@
 -- What a call that C and Rust make gives: the number that it returns, and all that was lent. And HSE as it takes it.
 -- Assumes nothing.
-use Rattle.std.specs.Prelude.{ℕ, ◌≡◌, cond, List, [], ◌∷◌, ◌++◌, eqb, ltb, length, take}
+use Rattle.std.specs.Prelude.{ℕ, ◌≡◌, cond, List, [], ◌∷◌, ◌++◌, eqb}
 use Rattle.std.proofs.Common.{sym, ◌∙◌}
 use Rattle.answer.specs.Answer.{Answer, gives, refuses, ◌>>=◌}
 use Rattle.layout.specs.Lent.{written, after}
@@ -9,10 +9,6 @@ use Rattle.tree.specs.declared.HseFrequency.{HseFrequency}
 use Rattle.tree.specs.declared.HseFrequency.TheVariants as hse
 use Rattle.capi_give.specs.declared.Sevenfold.{Sevenfold}
 use Rattle.capi_give.specs.declared.Sevenfold.TheVariants as seven
-use Rattle.capi_give.specs.declared.Eightfold.{Eightfold}
-use Rattle.capi_give.specs.declared.Eightfold.TheVariants as eight
-use Rattle.capi_give.specs.declared.Ninefold.{Ninefold}
-use Rattle.capi_give.specs.declared.Ninefold.TheVariants as nine
 use Rattle.capi_give.specs.declared.Twofold.{Twofold}
 use Rattle.capi_give.specs.declared.Twofold.TheVariants as two
 
@@ -34,24 +30,6 @@ pub record Given (n : ℕ) (m : Answer (List ℕ)) (l l' : List ℕ) (r : ℕ) :
 -- Nothing is left open: two results that the promise allows are equal.
 pub given_settled : {n : ℕ} {m : Answer (List ℕ)} {l a b : List ℕ} {r s : ℕ} → Given n m l a r → Given n m l b s → (r ≡ s) × (a ≡ b)
 given_settled w v = (w.number ∙ sym v.number, w.lent ∙ sym v.lent)
-
--- How many words of a record that has grown from `old` to `new` so many lent ones get: all that it has now, or as many as before.
-abbrev pub grown_to : ℕ → ℕ → ℕ → ℕ
-grown_to old new lent = cond (ltb lent new) old new
-
--- the first n words of a record
-abbrev pub first_words : ℕ → Answer (List ℕ) → Answer (List ℕ)
-first_words n m = do
-  w ← m
-  gives (take n w)
-
--- A record m that has grown from `old` words to `new`: whole where the lent words hold it, else its first words, as before it grew.
-pub record GivenGrown (old new : ℕ) (m : Answer (List ℕ)) (l l' : List ℕ) (r : ℕ) : Type 0 where
-  pub given : Given (grown_to old new (length l)) (first_words (grown_to old new (length l)) m) l l' r
-
-pub given_grown_settled : {old new : ℕ} {m : Answer (List ℕ)} {l a b : List ℕ} {r s : ℕ} → GivenGrown old new m l a r → GivenGrown old new m l b s →
-    (r ≡ s) × (a ≡ b)
-given_grown_settled w v = given_settled w.given v.given
 
 -- one lent word after a number is given through it: a refusal leaves it
 abbrev one_after : ℕ → Answer ℕ → ℕ
@@ -97,29 +75,3 @@ seven_words m = do
 abbrev pub sevenfold_says : Sevenfold → Answer (Clocks × ℕ)
 sevenfold_says (seven.Are k more) = gives (k, more)
 sevenfold_says (seven.Refused n) = refuses n
-
--- the six clocks, then a ratio's source and its divisor
-abbrev eight_of : Clocks × ℕ × ℕ → List ℕ
-eight_of a = six_of a.0 ++ (a.1 ∷ a.2 ∷ [])
-
-abbrev pub eight_words : Answer (Clocks × ℕ × ℕ) → Answer (List ℕ)
-eight_words m = do
-  a ← m
-  gives (eight_of a)
-
-abbrev pub eightfold_says : Eightfold → Answer (Clocks × ℕ × ℕ)
-eightfold_says (eight.Are k source divisor) = gives (k, source, divisor)
-eightfold_says (eight.Refused n) = refuses n
-
--- the six clocks and one more number, then a ratio's source and its divisor
-abbrev nine_of : Clocks × ℕ × ℕ × ℕ → List ℕ
-nine_of a = six_of a.0 ++ (a.1 ∷ a.2 ∷ a.3 ∷ [])
-
-abbrev pub nine_words : Answer (Clocks × ℕ × ℕ × ℕ) → Answer (List ℕ)
-nine_words m = do
-  a ← m
-  gives (nine_of a)
-
-abbrev pub ninefold_says : Ninefold → Answer (Clocks × ℕ × ℕ × ℕ)
-ninefold_says (nine.Are k more source divisor) = gives (k, more, source, divisor)
-ninefold_says (nine.Refused n) = refuses n

@@ -4,7 +4,7 @@ ghost use Rattle.std.specs.Prelude.{◌≡◌, ◌++◌, ◌≤◌, length, drop
 ghost use Rattle.answer.specs.Answer.{gives};
 ghost use Rattle.answer.specs.Said.{reply_says};
 ghost use Rattle.tree.specs.Tree.{buses_says};
-ghost use Rattle.capi_give.specs.Given.{decoder_hse, Given, GivenOne, grown_to, GivenGrown, two_words, twofold_says, six_words, seven_words, sevenfold_says, eight_words, eightfold_says, nine_words, ninefold_says};
+ghost use Rattle.capi_give.specs.Given.{decoder_hse, Given, GivenOne, two_words, twofold_says, six_words, seven_words, sevenfold_says};
 
 use answer::Reply;
 use tree::{Buses, Clocks, HseFrequency};
@@ -13,10 +13,6 @@ use tree::{Buses, Clocks, HseFrequency};
 pub const CLOCKS_WORDS: usize = 6;
 // The six clocks and one more number, in words.
 pub const CHECK_WORDS: usize = 7;
-// What the V4x7 check gives, in words: the six clocks, the ADC's frequency, and its ratio. Seven lent words get the first seven.
-pub const V4X7_CHECK_WORDS: usize = 9;
-// What the V4x7 decoder gives, in words: the six clocks, and the ADC's ratio. Six lent words get the first six.
-pub const V4X7_DECODE_WORDS: usize = 8;
 // Two numbers, in words.
 pub const PAIR_WORDS: usize = 2;
 
@@ -24,29 +20,6 @@ pub const PAIR_WORDS: usize = 2;
 #[derive(Drop)]
 pub enum Sevenfold {
     Are { clocks: Clocks, more: u32 },
-    Refused(u8),
-}
-
-// The six clocks and a ratio, or a refusal number.
-#[derive(Drop)]
-pub enum Eightfold {
-    Are {
-        clocks: Clocks,
-        source: u32,
-        divisor: u32,
-    },
-    Refused(u8),
-}
-
-// The six clocks, one more number and a ratio, or a refusal number.
-#[derive(Drop)]
-pub enum Ninefold {
-    Are {
-        clocks: Clocks,
-        more: u32,
-        source: u32,
-        divisor: u32,
-    },
     Refused(u8),
 }
 
@@ -150,77 +123,6 @@ pub fn give_seven(answer: Sevenfold, out: &mut [u32]) -> u8
                 more,
             ];
             give(&xs, out)
-        }
-    }
-}
-
-// How many words of a record that has grown from `old` to `new` so many lent ones get: all that it has now, or as many as before.
-fn grown_to(old: usize, new: usize, lent: usize) -> usize
-    ensures { result ≡ grown_to old new lent }
-{
-    if lent < new { old } else { new }
-}
-
-// Gives the six clocks and a ratio, or hands their refusal on. 32 comes first: fewer than the six clocks are lent. Through six or seven lent words it
-// gives the six clocks alone.
-pub fn give_eight(answer: Eightfold, out: &mut [u32]) -> u8
-    ensures { GivenGrown 6 8 (eight_words (eightfold_says answer)) out.old out.new result }
-{
-    if out.len() < CLOCKS_WORDS {
-        return answer::OUTPUT_TOO_SHORT;
-    }
-    match answer {
-        Eightfold::Refused(n) => n,
-        Eightfold::Are {
-            clocks: six,
-            source,
-            divisor,
-        } => {
-            let xs = [
-                six.sysclk,
-                six.hclk,
-                six.pclk1,
-                six.pclk2,
-                six.pclk1_tim,
-                six.pclk2_tim,
-                source, // word 6 of eight
-                divisor, // word 7 of eight
-            ];
-            let n = grown_to(CLOCKS_WORDS, V4X7_DECODE_WORDS, out.len());
-            give(&xs[..n], out)
-        }
-    }
-}
-
-// Gives the six clocks, one more number and a ratio, or hands their refusal on. 32 comes first: fewer than seven words are lent. Through seven or
-// eight lent words it gives the first seven alone.
-pub fn give_nine(answer: Ninefold, out: &mut [u32]) -> u8
-    ensures { GivenGrown 7 9 (nine_words (ninefold_says answer)) out.old out.new result }
-{
-    if out.len() < CHECK_WORDS {
-        return answer::OUTPUT_TOO_SHORT;
-    }
-    match answer {
-        Ninefold::Refused(n) => n,
-        Ninefold::Are {
-            clocks: six,
-            more,
-            source,
-            divisor,
-        } => {
-            let xs = [
-                six.sysclk,
-                six.hclk,
-                six.pclk1,
-                six.pclk2,
-                six.pclk1_tim,
-                six.pclk2_tim,
-                more, // word 6 of nine
-                source, // word 7 of nine
-                divisor, // word 8 of nine
-            ];
-            let n = grown_to(CHECK_WORDS, V4X7_CHECK_WORDS, out.len());
-            give(&xs[..n], out)
         }
     }
 }

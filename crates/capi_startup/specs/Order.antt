@@ -4,7 +4,7 @@ use Rattle.std.specs.Prelude.{ℕ, true, not, List, [], ◌∷◌, ◌++◌, eqb
 use Rattle.answer.specs.Answer.{Answer, gives, refuses}
 use Rattle.answer.specs.Order.{Test, InOrder, behind, order_gives, order_behind}
 use Rattle.v4x7.specs.declared.Config.{Config}
-use Rattle.v4x7.specs.declared.Promise.{Promise}
+use Rattle.v4x7.specs.declared.ClockRecord.{ClockRecord}
 use Rattle.v4x7.specs.Check.{named_of, check_of}
 use Rattle.profile.specs.Profile.{read_profile}
 use Rattle.image.specs.Image.{in_width, read_image}
@@ -32,7 +32,7 @@ start_in_order check profile image p i h a b =
 -- `wontabeli_step`: 30 of the place's profile, 31 of its image, then the tests of a call of its startup s.
 
 -- not over, by the check's answer
-abbrev going_tests : Answer Promise → Startup → Reading → List Test
+abbrev going_tests : Answer ClockRecord → Startup → Reading → List Test
 going_tests (refuses n) s r = (28, true) ∷ []  -- its configuration is not accepted
 going_tests (gives x) s r = step_tests x.clocks s r
 

@@ -1,4 +1,4 @@
--- The decoder refuses by the first refusal in document 01's order, and gives the clock record exactly where none applies; the queries likewise.
+-- The decoder refuses by the first refusal in document 01's order, and gives clocks exactly where none applies; the queries likewise.
 -- Assumes nothing.
 use mathlib.Core.Path.{◌≡◌, refl, ap}
 use mathlib.Core.Bool.{Bool, true, false, cond, not, ◌&&◌, ◌||◌}
@@ -10,12 +10,11 @@ use lib.Dec.{ltb, eqb}
 use lib.ListN.{take, drop}
 use Rattle.answer.specs.Answer.{Answer, gives, refuse, ◌>>=◌, ◌>>◌}
 use Rattle.answer.specs.Tests.{every_at}
-use Rattle.answer.specs.Order.{Test, first_of, bare, order_past, OrElse, else_gives, else_known, else_skip, else_past, else_refuse, else_bind, else_then, else_order}
+use Rattle.answer.specs.Order.{Test, first_of, bare, InOrder, order_gives, order_past, order_bind, OrElse, else_gives, else_known, else_skip, else_past, else_refuse, else_bind, else_then, else_order}
 use Rattle.divider.specs.declared.Family.TheVariants.{V4x7}
 use Rattle.divider.specs.declared.Frequency.{Frequency}
 use Rattle.divider.specs.Divide.{ahb_divisor}
 use Rattle.divider.specs.Frequency.{whole, over}
-use Rattle.fraction.specs.Fraction.{lowest_of}
 use Rattle.tree.specs.Order.{no_hse, hse_hz, clocks_at}
 use Rattle.tree.specs.declared.HseFrequency.{HseFrequency}
 use Rattle.image.specs.declared.Fields.{Fields}
@@ -23,9 +22,9 @@ use Rattle.image.specs.Image.{in_widths, in_width}
 use Rattle.v4x7_rules.specs.Rules.{reference_code_of, two_thirds, sys_pll_of, buses_of}
 use Rattle.v4x7_rules.specs.Plain.{outside, allowed, reference_code}
 use Rattle.v4x7_rules.specs.Order.{used_hse_else, main_pll_else, eth_pll_else, reference_code_else, buses_else, adc_from_hclk_else, adc_from_usbhs_else}
-use Rattle.decoder.specs.Decode.{usb_hs_reference_of, usb_hs_pll_of, sys_pll_input_of, in_use_of, ratio_of, decode_of}
-use Rattle.decoder.specs.Queries.{hertz, adc_not_ready, adc_ratio_of, adc_query_of, rng_query_of}
-use Rattle.decoder.specs.Order.{reference_hz, sysclk_hz, divided_at, ratio_at, record_at, decode_tests, query_tests}
+use Rattle.decoder.specs.Decode.{usb_hs_reference_of, usb_hs_pll_of, sys_pll_input_of, in_use_of, decode_of}
+use Rattle.decoder.specs.Queries.{adc_ratio_of, adc_query_of, rng_query_of}
+use Rattle.decoder.specs.Order.{reference_hz, sysclk_hz, decode_tests, query_tests}
 
 reference : (source : ℕ) (h : HseFrequency) → source < 4 →
     OrElse ((3, (eqb source 0 || eqb source 2) && no_hse h) ∷ (4, (eqb source 0 || eqb source 2) && outside 5000000 32000000 (hse_hz h))
@@ -67,9 +66,9 @@ eight (suc (suc (suc (suc s)))) h a b c d e f g i =
     (λ is. g (ap (λ n. suc (suc (suc (suc n)))) is)) (λ is. i (ap (λ n. suc (suc (suc (suc n)))) is))
 
 -- divided by 1..8, nothing more is refused
-over_eight : {l : List Test} {x : Frequency} {m : Answer Frequency} (n : ℕ) → OrElse l x m →
+divided : {l : List Test} {x : Frequency} {m : Answer Frequency} (n : ℕ) → OrElse l x m →
     OrElse (l ++ []) (over x (n + 1)) (◌>>=◌ m (λ y. gives (over y (n + 1))))
-over_eight n h = else_bind h (λ y e. else_known (ap (λ (z : Frequency). over z (n + 1)) e))
+divided n h = else_bind h (λ y e. else_known (ap (λ (z : Frequency). over z (n + 1)) e))
 
 system : (f : Fields) (h : HseFrequency) → in_width f ≡ true → OrElse (take 16 (drop 1 (decode_tests f h))) (whole (sysclk_hz f h)) (in_use_of f h)
 unfolding in_use_of sys_pll_input_of sys_pll_of two_thirds over in_widths
@@ -82,13 +81,13 @@ system f h wide =
     (λ is. rw is (record { is = refl }))
     (λ is. rw is (record { is = (used_hse_else h).is }))
     (λ is. rw is (eight f.cfgr2.syspllsrc (ltb-true _ 8 (at 10))
-    (λ is. rw is (record { is = (over_eight div (else_then usbhs (λ e. else_gives))).is }))
-    (λ is. rw is (record { is = (over_eight div (else_then (eth_pll_else h) (λ e. else_gives))).is }))
-    (λ is. rw is (record { is = (over_eight div (else_then usbhs (λ e. else_gives))).is }))
-    (λ is. rw is (record { is = (over_eight div (else_then (eth_pll_else h) (λ e. else_gives))).is }))
+    (λ is. rw is (record { is = (divided div (else_then usbhs (λ e. else_gives))).is }))
+    (λ is. rw is (record { is = (divided div (else_then (eth_pll_else h) (λ e. else_gives))).is }))
+    (λ is. rw is (record { is = (divided div (else_then usbhs (λ e. else_gives))).is }))
+    (λ is. rw is (record { is = (divided div (else_then (eth_pll_else h) (λ e. else_gives))).is }))
     (λ is. rw is (record { is = refl }))
     (λ is. rw is (record { is = refl }))
-    (λ is. rw is (record { is = (over_eight div (else_bind main (λ x e. else_known e))).is }))
+    (λ is. rw is (record { is = (divided div (else_bind main (λ x e. else_known e))).is }))
     (λ is. rw is (record { is = refl }))))
     (λ is. rw is (record { is = refl }))
 
@@ -97,15 +96,27 @@ buses : (sys : Frequency) (hpre ppre1 ppre2 : ℕ) {hz : ℕ} → sys ≡ whole 
 buses sys hpre ppre1 ppre2 {hz} is h k l =
     rw is (else_skip (else_skip (else_skip (buses_else (whole hz) hpre ppre1 ppre2) (lt-leb 16 hpre h)) (lt-leb 8 ppre1 k)) (lt-leb 8 ppre2 l))
 
--- once the codes are in width, nothing more is refused: what the ADC divides, and the ratio
+-- the whole decoder: refused by the first of the list, or else the plain numbers
+pub decode_else : (f : Fields) (h : HseFrequency) →
+    OrElse (decode_tests f h) (clocks_at V4x7 (whole (sysclk_hz f h)) f.cfgr0.hpre f.cfgr0.ppre1 f.cfgr0.ppre2) (decode_of f h)
+unfolding decode_of in_widths
+decode_else f h =
+    else_past 28 (not (in_width f)) (λ e.
+    let at = every_at (in_widths f) (not-false (in_width f) e) in
+    else_bind (system f h (not-false (in_width f) e)) (λ sys e.
+    buses sys f.cfgr0.hpre f.cfgr0.ppre1 f.cfgr0.ppre2 e (ltb-true _ 16 (at 3)) (ltb-true _ 8 (at 4)) (ltb-true _ 8 (at 5))))
 
-either : {A : Type 0} {v w : A} {m p : Answer A} (b : Bool) → OrElse [] v m → OrElse [] w p → OrElse [] (cond b v w) (cond b m p)
+pub decode_in_order : (f : Fields) (h : HseFrequency) → bare (decode_of f h) ≡ first_of (decode_tests f h)
+decode_in_order f h = (else_order (decode_else f h)).goes
+
+-- a query gives, once 28 is out of the way
+either : {A : Type 0} {m p : Answer A} (b : Bool) → InOrder [] m → InOrder [] p → InOrder [] (cond b m p)
 either true h k = h
 either false h k = k
 
-divided : (f : Fields) (sys : ℕ) → in_width f ≡ true → OrElse [] (divided_at f sys) (adc_ratio_of f sys)
+ratio : (f : Fields) (sys : ℕ) → in_width f ≡ true → InOrder [] (adc_ratio_of f sys)
 unfolding adc_ratio_of in_widths
-divided f sys wide =
+ratio f sys wide =
     let at = every_at (in_widths f) wide in
     let clkdiv = f.cfgr3.adc_clkdiv in
     let small = ltb-true clkdiv 32 (at 12) in
@@ -113,41 +124,21 @@ divided f sys wide =
     let adcpre = lt-leb 4 f.cfgr0.adcpre (ltb-true _ 4 (at 6)) in
     either f.cfgr0.adcsrc
     (rw (lt-leb 32 clkdiv small)
-    (else_skip (else_skip (else_skip (adc_from_usbhs_else (clkdiv + 1) f.cfgr0.ppre2 f.cfgr0.adcpre) adcpre) ppre2) (inside clkdiv small)))
-    (else_skip (else_skip (else_skip (adc_from_hclk_else sys f.cfgr0.hpre f.cfgr0.ppre2 f.cfgr0.adcpre)
-    (lt-leb 16 f.cfgr0.hpre (ltb-true _ 16 (at 3)))) adcpre) ppre2)
+    (else_order (else_skip (else_skip (else_skip (adc_from_usbhs_else (clkdiv + 1) f.cfgr0.ppre2 f.cfgr0.adcpre) adcpre) ppre2) (inside clkdiv small))))
+    (else_order (else_skip (else_skip (else_skip (adc_from_hclk_else sys f.cfgr0.hpre f.cfgr0.ppre2 f.cfgr0.adcpre)
+    (lt-leb 16 f.cfgr0.hpre (ltb-true _ 16 (at 3)))) adcpre) ppre2))
   where
     inside : (n : ℕ) → n < 32 → outside 1 32 (n + 1) ≡ false
     inside n h = simp (le-ltb (n + 1) 1 (omega arith), le-ltb 32 (n + 1) (omega arith))
-
-ratio : (f : Fields) (sys : ℕ) → in_width f ≡ true → OrElse [] (ratio_at f sys) (ratio_of f sys)
-unfolding ratio_of
-ratio f sys wide =
-    either (adc_not_ready f) else_gives (else_bind (divided f sys wide) (λ x e. else_known (ap (λ (y : ℕ × ℕ). lowest_of y.0 y.1) e)))
-
--- the whole decoder: refused by the first of the list, or else the plain numbers
-pub decode_else : (f : Fields) (h : HseFrequency) → OrElse (decode_tests f h) (record_at f h) (decode_of f h)
-unfolding decode_of in_widths
-decode_else f h =
-    else_past 28 (not (in_width f)) (λ e.
-    let wide = not-false (in_width f) e in
-    let at = every_at (in_widths f) wide in
-    else_bind (system f h wide) (λ sys e. rw e
-    (else_bind (buses (whole (sysclk_hz f h)) f.cfgr0.hpre f.cfgr0.ppre1 f.cfgr0.ppre2 refl (ltb-true _ 16 (at 3)) (ltb-true _ 8 (at 4)) (ltb-true _ 8 (at 5)))
-    (λ six is. else_bind (ratio f (sysclk_hz f h) wide) (λ r k. rw (is, k) else_gives)))))
-
-pub decode_in_order : (f : Fields) (h : HseFrequency) → bare (decode_of f h) ≡ first_of (decode_tests f h)
-decode_in_order f h = (else_order (decode_else f h)).goes
 
 pub adc_in_order : (f : Fields) (sys : ℕ) → bare (adc_query_of f sys) ≡ first_of (query_tests f)
 unfolding adc_query_of
 adc_in_order f sys =
     (order_past 28 (not (in_width f)) (λ e.
-    else_order (either (adc_not_ready f) else_gives
-    (else_bind (divided f sys (not-false (in_width f) e)) (λ x q. else_known (ap (λ (y : ℕ × ℕ). hertz (y.0 / y.1)) q)))))).goes
+    either (f.cfgr0.adcsrc && not f.seen.usbhs_pllrdy) order_gives
+    (order_bind _ (ratio f sys (not-false (in_width f) e)) (λ x q. order_gives)))).goes
 
 pub rng_in_order : (f : Fields) (sys : ℕ) → bare (rng_query_of f sys) ≡ first_of (query_tests f)
 unfolding rng_query_of
 rng_in_order f sys =
-    (order_past 28 (not (in_width f)) (λ e.
-    else_order (either f.cfgr2.rngsrc (either f.cfgr2.i2spllsrc else_gives else_gives) else_gives))).goes
+    (order_past 28 (not (in_width f)) (λ e. either f.cfgr2.rngsrc (either f.cfgr2.i2spllsrc order_gives order_gives) order_gives)).goes

@@ -1,12 +1,9 @@
--- The V4x7 decoder of document 01, "V4x7 decoder": from register fields and HSE to the six clocks, and document 02, K6: the ADC's ratio beside them.
--- Of the enable and ready bits only USBHS ready is looked at, and for the ratio alone.
+-- The V4x7 decoder of document 01, "V4x7 decoder": from register fields and HSE to the six clocks. Enable and ready bits are not looked at.
 -- Assumes nothing.
-use Rattle.std.specs.Prelude.{◌≡◌, refl, Bool, cond, not, ◌||◌, ℕ, ◌+◌, eqb}
-use Rattle.answer.specs.Answer.{Answer, gives, refuses, refuse, ◌>>=◌, ◌>>◌, settled_by}
+use Rattle.std.specs.Prelude.{Bool, cond, not, ◌||◌, ℕ, ◌+◌, eqb}
+use Rattle.answer.specs.Answer.{Answer, gives, refuses, refuse, ◌>>=◌, ◌>>◌}
 use Rattle.divider.specs.declared.Frequency.{Frequency}
 use Rattle.divider.specs.Frequency.{whole, over}
-use Rattle.fraction.specs.declared.Fraction.{Fraction}
-use Rattle.fraction.specs.Fraction.{nothing, lowest_of}
 use Rattle.tree.specs.declared.Clocks.{Clocks}
 use Rattle.tree.specs.declared.HseFrequency.{HseFrequency}
 use Rattle.tree.specs.declared.Output.TheVariants as output
@@ -14,10 +11,6 @@ use Rattle.image.specs.declared.Fields.{Fields}
 use Rattle.image.specs.declared.Cfgr2.{Cfgr2}
 use Rattle.image.specs.Image.{in_width}
 use Rattle.v4x7_rules.specs.Rules.{used_hse_of, main_pll_of, eth_pll_of, reference_code_of, sys_pll_of, buses_of}
-use Rattle.v4x7_rules.specs.declared.ClockRecord.{ClockRecord}
-use Rattle.decoder.specs.declared.Decoded.{Decoded}
-use Rattle.decoder.specs.declared.Decoded.TheVariants as decoded
-use Rattle.decoder.specs.Queries.{adc_not_ready, adc_ratio_of}
 
 -- USBHS: source 0 HSE (3, 4), 1 HSI, 2 HSE at 25 MHz (3, 4, 6) with reference 20 MHz, 3 refusal 17
 unfoldable pub usb_hs_reference_of : ℕ → HseFrequency → Answer Frequency
@@ -60,45 +53,9 @@ in_use_of f hse =
       gives (over input (f.cfgr2.sysplldiv + 1)))
     (refuses 20)))
 
--- The ADC's ratio: 0 over 0 where the ADC query says "not ready", else what it divides, in lowest terms.
-unfoldable pub ratio_of : Fields → ℕ → Answer Fraction
-ratio_of f sys = cond (adc_not_ready f) (gives nothing) (do
-  x ← adc_ratio_of f sys
-  gives (lowest_of x.0 x.1))
-
--- the clock record of six clocks
-abbrev pub with_ratio_of : Clocks → Fields → ℕ → Answer ClockRecord
-with_ratio_of six f sys = do
-  ratio ← ratio_of f sys
-  gives (record { six = six; ratio = ratio })
-
--- HCLK (12), then the ratio
-abbrev pub record_of : Frequency → Fields → Answer ClockRecord
-record_of sys f = do
-  six ← buses_of sys f.cfgr0.hpre f.cfgr0.ppre1 f.cfgr0.ppre2
-  with_ratio_of six f sys.hz
-
--- The decoder: 28 before anything else, then in order
-unfoldable pub decode_of : Fields → HseFrequency → Answer ClockRecord
+-- The decoder: 28 before anything else; then 12
+unfoldable pub decode_of : Fields → HseFrequency → Answer Clocks
 decode_of f hse = do
   refuse 28 (not (in_width f))
   sys ← in_use_of f hse
-  record_of sys f
-
--- What a `Decoded` says; two that say the same are equal.
-
-abbrev pub decoded_says : Decoded → Answer ClockRecord
-decoded_says (decoded.Run k) = gives k
-decoded_says (decoded.Refused n) = refuses n
-
-decoded_of : Answer ClockRecord → Decoded
-decoded_of (gives k) = decoded.Run k
-decoded_of (refuses n) = decoded.Refused n
-
-decoded_again : (r : Decoded) → decoded_of (decoded_says r) ≡ r
-unfolding decoded_of
-decoded_again (decoded.Run k) = refl
-decoded_again (decoded.Refused n) = refl
-
-pub decoded_settled : (r s : Decoded) → decoded_says r ≡ decoded_says s → r ≡ s
-decoded_settled = settled_by decoded_says decoded_of decoded_again
+  buses_of sys f.cfgr0.hpre f.cfgr0.ppre1 f.cfgr0.ppre2

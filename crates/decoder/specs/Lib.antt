@@ -1,5 +1,4 @@
-pub mod Queries
 pub mod Decode
+pub mod Queries
 pub mod QueryLaws
-pub mod Ratio
 pub mod Order

@@ -4,17 +4,11 @@ use Rattle.std.specs.Prelude.{Bool, cond, not, ◌&&◌, ◌||◌, List, [], ◌
 use Rattle.answer.specs.Order.{Test}
 use Rattle.divider.specs.declared.Family.TheVariants.{V4x7}
 use Rattle.divider.specs.Divide.{ahb_divisor}
-use Rattle.divider.specs.Frequency.{whole}
-use Rattle.fraction.specs.declared.Fraction.{Fraction}
-use Rattle.fraction.specs.Fraction.{nothing, lowest_of}
 use Rattle.image.specs.declared.Fields.{Fields}
 use Rattle.image.specs.Image.{in_width}
 use Rattle.tree.specs.declared.HseFrequency.{HseFrequency}
-use Rattle.tree.specs.Order.{no_hse, hse_hz, clocks_at}
-use Rattle.v4x7_rules.specs.declared.ClockRecord.{ClockRecord}
-use Rattle.v4x7_rules.specs.Order.{total_divisor}
+use Rattle.tree.specs.Order.{no_hse, hse_hz}
 use Rattle.v4x7_rules.specs.Plain.{outside, main_pll_hz, allowed, reference_code, sys_pll_hz}
-use Rattle.decoder.specs.Queries.{adc_not_ready}
 
 -- the USBHS PLL's reference by its source: HSE, else 20 MHz
 abbrev pub reference_hz : ℕ → HseFrequency → ℕ
@@ -28,23 +22,6 @@ abbrev pub sysclk_hz : Fields → HseFrequency → ℕ
 sysclk_hz f h =
     get_or (20000000 ∷ hse_hz h ∷ sys_pll_hz f.cfgr2.syspllsrc (main_hz f h) / (f.cfgr2.sysplldiv + 1) ∷ [])
     f.seen.sws 0
-
--- what the ADC divides, and by how much
-abbrev pub divided_at : Fields → ℕ → ℕ × ℕ
-divided_at f sys =
-    cond f.cfgr0.adcsrc (480000000, total_divisor (f.cfgr3.adc_clkdiv + 1) f.cfgr0.ppre2 f.cfgr0.adcpre)
-    (sys, total_divisor (ahb_divisor V4x7 f.cfgr0.hpre) f.cfgr0.ppre2 f.cfgr0.adcpre)
-
-abbrev pub ratio_at : Fields → ℕ → Fraction
-ratio_at f sys = cond (adc_not_ready f) nothing (lowest_of (divided_at f sys).0 (divided_at f sys).1)
-
--- the clock record
-abbrev pub record_at : Fields → HseFrequency → ClockRecord
-record_at f h =
-    record {
-      six = clocks_at V4x7 (whole (sysclk_hz f h)) f.cfgr0.hpre f.cfgr0.ppre1 f.cfgr0.ppre2;
-      ratio = ratio_at f (sysclk_hz f h);
-    }
 
 -- what is in use: the clock of code n; behind SYSPLL the USBHS, the ETH or the main PLL; HSE behind the USBHS PLL
 abbrev pub in_use : ℕ → Fields → Bool

@@ -2,23 +2,16 @@
 ghost use Rattle.std.specs.Prelude.{◌≡◌};
 ghost use Rattle.answer.specs.Said.{outcome_says};
 ghost use Rattle.divider.specs.Frequency.{rate_says};
-ghost use Rattle.decoder.specs.Decode.{usb_hs_reference_of, usb_hs_pll_of, sys_pll_input_of, in_use_of, with_ratio_of, decode_of, decoded_says};
+ghost use Rattle.tree.specs.Tree.{buses_says};
+ghost use Rattle.decoder.specs.Decode.{usb_hs_reference_of, usb_hs_pll_of, sys_pll_input_of, in_use_of, decode_of};
 ghost use Rattle.v4x7_rules.specs.Rules.{ratio_says};
-ghost use Rattle.decoder.specs.Queries.{query_says, adc_not_ready, adc_ratio_of, adc_query_of, rng_query_of};
+ghost use Rattle.decoder.specs.Queries.{query_says, adc_ratio_of, adc_query_of, rng_query_of};
 
 use answer::{Outcome, Reply};
 use divider::Rate;
-use fraction::Fraction;
 use image::{Cfgr2, Fields};
-use tree::{Buses, Clocks, HseFrequency, Output};
-use v4x7_rules::{ClockRecord, ETH_PLL_FREQUENCY, HSI_FREQUENCY, Ratio, USBHS_PLL_FREQUENCY};
-
-// The clock record that the registers say, or a refusal number.
-#[derive(Drop)]
-pub enum Decoded {
-    Run(ClockRecord),
-    Refused(u8),
-}
+use tree::{Buses, HseFrequency, Output};
+use v4x7_rules::{ETH_PLL_FREQUENCY, HSI_FREQUENCY, Ratio, USBHS_PLL_FREQUENCY};
 
 // A frequency in Hz, or that its PLL is not ready, or a refusal number.
 #[derive(Drop)]
@@ -114,11 +107,18 @@ fn sysclk(f: Fields, hse: HseFrequency) -> Rate
     Rate::Refused(answer::SYSCLK_RESERVED)
 }
 
-// Whether the ADC runs from the USBHS PLL and this isn't ready.
-fn adc_not_ready(f: Fields) -> bool
-    ensures { result ≡ adc_not_ready f }
+// The six clocks that the fields say, or the first refusal in document 01's order.
+pub fn decode(f: Fields, hse: HseFrequency) -> Buses
+    ensures { buses_says result ≡ decode_of f hse }
 {
-    f.cfgr0.adcsrc & !f.seen.usbhs_pllrdy
+    if !image::in_width(f) {
+        return Buses::Refused(answer::CODE_NOT_ALLOWED);
+    }
+    let rate = sysclk(f, hse);
+    let Rate::At(sys) = rate else {
+        return Buses::Refused(divider::refusal(rate));
+    };
+    v4x7_rules::bus_clocks(sys, f.cfgr0.hpre, f.cfgr0.ppre1, f.cfgr0.ppre2)
 }
 
 // What the ADC divides, and by how much: the USBHS PLL where ADCSRC is set, else the SYSCLK handed in.
@@ -135,44 +135,6 @@ fn adc_ratio(f: Fields, sysclk: u32) -> Ratio
     v4x7_rules::adc_from_hclk(sysclk, f.cfgr0.hpre, f.cfgr0.ppre2, f.cfgr0.adcpre)
 }
 
-// The six clocks with the ADC's ratio in lowest terms: 0 over 0 where its PLL isn't ready.
-fn with_ratio(six: Clocks, f: Fields, sysclk: u32) -> Decoded
-    ensures { decoded_says result ≡ with_ratio_of six f sysclk }
-{
-    let not_ready = adc_not_ready(f);
-    if not_ready {
-        let ratio = Fraction {
-            source: 0,
-            divisor: 0,
-        };
-        return Decoded::Run(ClockRecord { six, ratio });
-    }
-    match adc_ratio(f, sysclk) {
-        Ratio::Refused(n) => Decoded::Refused(n),
-        Ratio::Of { source, divisor } => {
-            let ratio = fraction::lowest(source, divisor);
-            Decoded::Run(ClockRecord { six, ratio })
-        }
-    }
-}
-
-// The clock record that the fields say, or the first refusal in document 01's order.
-pub fn decode(f: Fields, hse: HseFrequency) -> Decoded
-    ensures { decoded_says result ≡ decode_of f hse }
-{
-    if !image::in_width(f) {
-        return Decoded::Refused(answer::CODE_NOT_ALLOWED);
-    }
-    let rate = sysclk(f, hse);
-    let Rate::At(sys) = rate else {
-        return Decoded::Refused(divider::refusal(rate));
-    };
-    match v4x7_rules::bus_clocks(sys, f.cfgr0.hpre, f.cfgr0.ppre1, f.cfgr0.ppre2) {
-        Buses::Refused(n) => Decoded::Refused(n),
-        Buses::Run(six) => with_ratio(six, f, sys.hz),
-    }
-}
-
 // The ADC's frequency, or that the USBHS PLL it runs from isn't ready. It checks no limit.
 pub fn adc_frequency(f: Fields, sysclk: u32) -> Query
     ensures { query_says result ≡ adc_query_of f sysclk }
@@ -180,7 +142,7 @@ pub fn adc_frequency(f: Fields, sysclk: u32) -> Query
     if !image::in_width(f) {
         return Query::Refused(answer::CODE_NOT_ALLOWED);
     }
-    if adc_not_ready(f) {
+    if f.cfgr0.adcsrc & !f.seen.usbhs_pllrdy {
         return Query::NotReady;
     }
     match adc_ratio(f, sysclk) {

@@ -1,6 +1,6 @@
 -- What the check tells of a configuration that it accepts.
 -- Assumes nothing.
-use Prim.Native.Nat.{ℕ}
+use Prim.Native.Nat.{ℕ, ◌-◌, ◌<◌}
 use mathlib.Core.Path.{◌≡◌, sym, ap, ◌∙◌}
 use mathlib.Core.Bool.{true, false, ◌&&◌}
 use native.Mathlib.Omega.{arith}
@@ -9,22 +9,21 @@ use lib.Dec.{ltb}
 use Rattle.answer.specs.Answer.{gives}
 use Rattle.answer.specs.Order.{bare, none_holds}
 use Rattle.answer.specs.Tools.{neither}
-use Rattle.divider.specs.Facts.{Between}
 use Rattle.v4x7_rules.specs.Plain.{outside}
 use Rattle.v4x7.specs.declared.AdcClockSource.{AdcClockSource}
 use Rattle.v4x7.specs.declared.AdcClockSource.TheVariants as adc
 use Rattle.v4x7.specs.declared.Config.{Config}
-use Rattle.v4x7.specs.declared.Promise.{Promise}
+use Rattle.v4x7.specs.declared.ClockRecord.{ClockRecord}
 use Rattle.v4x7.specs.Check.{check_of, named_of, hse_frequency_of, usb_hs_of}
 use Rattle.v4x7.specs.Laws.{Named, named_given}
 use Rattle.v4x7.specs.Order.{adc_from_usb_hs, adc_first, check_tests}
 use Rattle.v4x7.proofs.Order.{check_in_order}
 use Rattle.demands.proofs.Bridge.{checked, sourced}
 
--- a USBHS divisor of the ADC is 1 to 32
+-- a USBHS divisor of the ADC fits its field once one is taken off
 abbrev pub DivisorFits : AdcClockSource → Type 0
 DivisorFits adc.Hclk = Unit {0}
-DivisorFits (adc.UsbHsPll d) = Between 32 d
+DivisorFits (adc.UsbHsPll d) = d - 1 < 32
 
 pub record Accepted (c : Config) : Type 0 where
   pub names : named_of c ≡ true
@@ -34,11 +33,9 @@ pub record Accepted (c : Config) : Type 0 where
 
 divisor_fits : (a : AdcClockSource) (ahb : ℕ) → (adc_from_usb_hs a && outside 1 32 (adc_first a ahb)) ≡ false → DivisorFits a
 divisor_fits adc.Hclk ahb q = tt
-divisor_fits (adc.UsbHsPll d) ahb q =
-    let within = neither (ltb d 1) (ltb 32 d) q in
-    record { low = ltb_false d 1 within.0; high = omega (arith, ltb_false 32 d within.1) }
+divisor_fits (adc.UsbHsPll d) ahb q = let top = ltb_false 32 d (neither (ltb d 1) (ltb 32 d) q).1 in omega arith
 
-pub accepted_tells : (c : Config) {x : Promise} → check_of c ≡ gives x → Accepted c
+pub accepted_tells : (c : Config) {x : ClockRecord} → check_of c ≡ gives x → Accepted c
 accepted_tells c q =
     let k = checked c q in
     let none = none_holds (check_tests c) (sym (check_in_order c) ∙ ap bare q) in

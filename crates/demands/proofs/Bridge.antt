@@ -1,41 +1,31 @@
--- An accepted configuration's codes, laid into any fields in width, decode to what the check promised.
+-- An accepted configuration's codes, laid into any fields in width, decode to the clocks that the check promised.
 -- Assumes nothing.
 use mathlib.Core.Path.{◌≡◌, ◌∙◌, refl, sym, ap, subst}
-use mathlib.Core.Bool.{Bool, true, false, cond, not, ◌&&◌, ◌||◌}
+use mathlib.Core.Bool.{Bool, true, false, not, ◌&&◌, ◌||◌}
 use Prim.Native.Nat.{ℕ, ◌+◌}
 use native.Mathlib.Omega.{arith}
-use borrow.Author.Tests.{eq-eqb, eqb-true, eqb-false, leb-true, lt-leb, ltb-true, not-false}
+use borrow.Author.Tests.{eq-eqb, eqb-true, eqb-false, leb-true, not-false}
 use lib.Dec.{eqb, leb}
-use Rattle.answer.specs.Answer.{Answer, gives, refuses, refuse, ◌>>=◌, ◌>>◌, bound, followed, passed, refuses_gives, same_given}
-use Rattle.answer.specs.Tests.{every_at}
+use Rattle.answer.specs.Answer.{gives, refuses, refuse, ◌>>=◌, ◌>>◌, bound, followed, passed, refuses_gives, same_given}
 use Rattle.answer.specs.Tools.{false_true, cases, and_other, neither}
 use Rattle.divider.specs.declared.Frequency.{Frequency}
 use Rattle.divider.specs.Frequency.{whole, over}
-use Rattle.fraction.specs.declared.Fraction.{Fraction}
-use Rattle.fraction.specs.Fraction.{nothing, lowest_of}
 use Rattle.tree.specs.declared.HseFrequency.{HseFrequency}
 use Rattle.tree.specs.declared.Output.{Output}
 use Rattle.tree.specs.declared.Output.TheVariants as output
 use Rattle.image.specs.declared.Fields.{Fields}
-use Rattle.image.specs.Image.{in_widths}
 use Rattle.v4x7_rules.specs.Rules.{main_pll_of, eth_pll_of, sys_pll_of, buses_of}
-use Rattle.v4x7_rules.specs.Order.{buses_sysclk}
 use Rattle.v4x7.specs.declared.Pll.{Pll}
 use Rattle.v4x7.specs.declared.Pll.TheVariants as pll
 use Rattle.v4x7.specs.declared.HsPll.{HsPll}
 use Rattle.v4x7.specs.declared.HsPll.TheVariants as hspll
-use Rattle.v4x7.specs.declared.AdcClockSource.{AdcClockSource}
-use Rattle.v4x7.specs.declared.AdcClockSource.TheVariants as adc
 use Rattle.v4x7.specs.declared.Config.{Config}
-use Rattle.v4x7.specs.declared.Promise.{Promise}
+use Rattle.v4x7.specs.declared.ClockRecord.{ClockRecord}
 use Rattle.v4x7.specs.Check.{check_of, named_of, named_hs_pll, has_usb_hs, hse_frequency_of, hse_present_of, rng_of, main_of, eth_of, reference_of, usb_hs_of, sources_of}
 use Rattle.v4x7.specs.Check as check
 use Rattle.v4x7.specs.Laws.{Named, named_given}
-use Rattle.v4x7.specs.AdcLaws.{adc_given, sampled}
-use Rattle.decoder.specs.Decode.{usb_hs_reference_of, usb_hs_pll_of, sys_pll_input_of, in_use_of, ratio_of, with_ratio_of, decode_of}
-use Rattle.decoder.specs.Queries.{adc_ratio_of}
-use Rattle.startup.specs.Writes.{from_usb_hs}
-use Rattle.demands.specs.Laid.{PllLaid, HsPllLaid, AdcLaid, Laid, as_told}
+use Rattle.decoder.specs.Decode.{usb_hs_reference_of, usb_hs_pll_of, sys_pll_input_of, in_use_of, decode_of}
+use Rattle.demands.specs.Laid.{PllLaid, HsPllLaid, Laid}
 
 -- what SYSPLL takes in is the main PLL's affair at source 6 alone
 ignores : (source : ℕ) (main : Output) → eqb source 6 ≡ false → sys_pll_of source main ≡ sys_pll_of source output.Absent
@@ -157,67 +147,34 @@ system c f {main} {sys} laid s named q =
     (λ l. absurd (omega (arith, named.sys, eqb-false c.sys 0 e, eqb-false c.sys 1 k, eqb-false c.sys 2 l)))))
 
 -- what an accepted check tells, step by step
-pub record Checked (c : Config) (x : Promise) : Type 0 where
+pub record Checked (c : Config) (x : ClockRecord) : Type 0 where
   pub named : named_of c ≡ true
   pub main : Output
   pub sources : sources_of c ≡ gives main
   pub sys : Frequency
   pub sysclk : check.sysclk_of main c ≡ gives sys
-  pub buses : buses_of sys c.ahb_pre c.apb1_pre c.apb2_pre ≡ gives x.clocks.six
+  pub buses : buses_of sys c.ahb_pre c.apb1_pre c.apb2_pre ≡ gives x.clocks
 
-pub checked : (c : Config) {x : Promise} → check_of c ≡ gives x → Checked c x
+pub checked : (c : Config) {x : ClockRecord} → check_of c ≡ gives x → Checked c x
 unfolding check_of check.system_of
 checked c {x} q =
     let names = passed 28 (not (named_of c)) _ q in
     let system = bound (check.system_of c) _ names.after in
     let sources = bound (sources_of c) _ system.gave in
     let buses = bound (buses_of system.value c.ahb_pre c.apb1_pre c.apb2_pre) _ system.after in
+    let adc = bound (check.adc_of system.value.hz c) _ buses.after in
     record {
       named = not-false (named_of c) names.failed;
       main = sources.value;
       sources = sources.gave;
       sys = system.value;
       sysclk = sources.after;
-      buses = buses.gave ∙ ap (λ (p : Promise). gives p.clocks.six) (sym (adc_given buses.value system.value.hz c buses.after).is);
+      buses = buses.gave ∙ ap (λ (y : ClockRecord). gives y.clocks) (same_given adc.after);
     }
 
--- what the ADC divides
-divided : (c : Config) (f : Fields) (sys : ℕ) (a : AdcClockSource) {x : ℕ × ℕ} → Laid c f → AdcLaid a f → f.cfgr0.adcsrc ≡ from_usb_hs a →
-    check.adc_ratio_of sys c.ahb_pre c.apb2_pre c.adc_pre c.hspll a ≡ gives x → adc_ratio_of f sys ≡ gives x
-unfolding check.adc_ratio_of adc_ratio_of in_widths
-divided c f sys adc.Hclk laid is from q = rw (from, laid.hpre, laid.ppre2, laid.adcpre) q
-divided c f sys (adc.UsbHsPll d) laid is from q =
-    let small = ltb-true f.cfgr3.adc_clkdiv 32 (every_at (in_widths f) laid.width 12) in
-    rw (from, lt-leb 32 f.cfgr3.adc_clkdiv small, is, laid.ppre2, laid.adcpre) (passed 13 (not (has_usb_hs c.hspll)) _ q).after
-
--- the ratio, where it is told
-ratio : (c : Config) (f : Fields) {x : Promise} → check_of c ≡ gives x → Laid c f →
-    ratio_of f x.clocks.six.sysclk ≡ gives (as_told c x.clocks f.seen).ratio
-unfolding ratio_of
-ratio c f {x} q laid =
-    let s = sampled c q in
-    let sys = x.clocks.six.sysclk in
-    let given = divided c f sys c.adc_src laid laid.divisor laid.adcsrc s.divides in
-    let fed = from_usb_hs c.adc_src in
-    let ready = f.seen.usbhs_pllrdy in
-    let reduced : ℕ × ℕ → Answer Fraction = λ y. gives (lowest_of y.0 y.1) in
-    ap (λ (b : Bool). cond (b && not ready) (gives nothing) (◌>>=◌ (adc_ratio_of f sys) reduced)) laid.adcsrc
-    ∙ ap (λ (m : Answer (ℕ × ℕ)). cond (fed && not ready) (gives nothing) (◌>>=◌ m reduced)) given
-    ∙ ap (λ (r : Fraction). cond (fed && not ready) (gives nothing) (gives r)) (sym s.ratio)
-    ∙ by_ready fed ready
-  where
-    by_ready : (usbhs ready : Bool) → cond (usbhs && not ready) (gives nothing) (gives x.clocks.ratio) ≡ gives (cond (not usbhs || ready) x.clocks.ratio nothing)
-    by_ready false ready = refl
-    by_ready true false = refl
-    by_ready true true = refl
-
-pub laid_decodes : (c : Config) (f : Fields) {x : Promise} → check_of c ≡ gives x → Laid c f →
-    decode_of f (hse_frequency_of c.hse) ≡ gives (as_told c x.clocks f.seen)
+pub laid_decodes : (c : Config) (f : Fields) {x : ClockRecord} → check_of c ≡ gives x → Laid c f → decode_of f (hse_frequency_of c.hse) ≡ gives x.clocks
 unfolding decode_of
-laid_decodes c f {x} q laid =
+laid_decodes c f q laid =
     let k = checked c q in
-    let six = x.clocks.six in
     let runs = system c f laid (sourced c k.sources) (named_given c k.named) k.sysclk in
-    let below : decode_of f (hse_frequency_of c.hse) ≡ with_ratio_of six f k.sys.hz =
-    simp (laid.width, runs, laid.hpre, laid.ppre1, laid.ppre2, k.buses) in
-    below ∙ ap (with_ratio_of six f) (sym (buses_sysclk k.sys _ _ _ k.buses)) ∙ rw (ratio c f q laid)
+    simp (laid.width, runs, laid.hpre, laid.ppre1, laid.ppre2) k.buses

@@ -1,18 +1,16 @@
--- An accepted configuration's steps leave fields that hold what it asks for, so that they decode to what was promised.
+-- An accepted configuration's steps leave fields that hold what it asks for, so that they decode to the promised clocks.
 -- Assumes nothing.
 use Prim.Native.Nat.{ℕ, ◌+◌}
 use mathlib.Core.Path.{◌≡◌, refl, sym, ap, ◌∙◌}
 use mathlib.Core.Bool.{Bool, true, false, cond, not, ◌&&◌}
 use mathlib.Core.List.{List}
-use native.Mathlib.Omega.{arith}
 use borrow.Author.Tests.{eq-eqb, eqb-true}
 use lib.Dec.{eqb}
 use lib.ListN.{take}
 use Rattle.answer.specs.Answer.{Answer, gives, refuse, ◌>>◌, bound, followed, passed, refuses_gives, same_given}
 use Rattle.divider.specs.declared.Frequency.{Frequency}
 use Rattle.divider.specs.Frequency.{whole}
-use Rattle.fraction.specs.Fraction.{nothing}
-use Rattle.v4x7_rules.specs.declared.ClockRecord.{ClockRecord}
+use Rattle.tree.specs.declared.Clocks.{Clocks}
 use Rattle.v4x7_rules.specs.Rules.{hse_in_range, used_hse_of, reference_code_of}
 use Rattle.v4x7.specs.declared.Hse.{Hse}
 use Rattle.v4x7.specs.declared.Hse.TheVariants as hse
@@ -23,16 +21,15 @@ use Rattle.v4x7.specs.declared.HsPll.TheVariants as hspll
 use Rattle.v4x7.specs.declared.AdcClockSource.{AdcClockSource}
 use Rattle.v4x7.specs.declared.AdcClockSource.TheVariants as adc
 use Rattle.v4x7.specs.declared.Config.{Config}
-use Rattle.v4x7.specs.declared.Promise.{Promise}
+use Rattle.v4x7.specs.declared.ClockRecord.{ClockRecord}
 use Rattle.v4x7.specs.Check.{check_of, has_hse, has_usb_hs, has_main, hse_frequency_of, reference_of, usb_hs_of}
-use Rattle.image.specs.declared.Seen.{Seen}
 use Rattle.image.specs.declared.Fields.{Fields}
 use Rattle.decoder.specs.Decode.{decode_of}
-use Rattle.demands.specs.Laid.{PllLaid, HsPllLaid, AdcLaid, Laid, as_told}
+use Rattle.demands.specs.Laid.{PllLaid, HsPllLaid, Laid}
 use Rattle.demands.proofs.Bridge.{laid_decodes}
 use Rattle.startup.specs.Writes.{with_seen, switch, gate, all_off, bypass, hse_on, eth_on, usb_hs_source}
 use Rattle.startup.specs.Writes.{usb_hs_on, main_source, main_on, from_usb_hs, adc_divisor, hse_hz, reference, or_zero, code_of}
-use Rattle.startup.specs.Steps.{Entry, steps, tells_ratio, same_record, is_record, agrees_of}
+use Rattle.startup.specs.Steps.{Entry, steps, same_clocks, is_clocks, agrees_of}
 use Rattle.startup.specs.declared.Reading.{Reading}
 use Rattle.startup.specs.Call.{seen_of, mask_of}
 use Rattle.demands.specs.Runs.{written}
@@ -40,7 +37,7 @@ use Rattle.demands.specs.Third.{enable_bits}
 use Rattle.demands.proofs.Walk.{Always}
 use Rattle.demands.proofs.Fair.{Tame}
 use Rattle.demands.proofs.Held.{always, tame_take, written_kept}
-use Rattle.demands.proofs.Accepted.{DivisorFits, Accepted, accepted_tells}
+use Rattle.demands.proofs.Accepted.{Accepted, accepted_tells}
 use Rattle.image.specs.Width.{Wide, in_width_lem}
 use Rattle.demands.proofs.Width.{see, tame}
 
@@ -132,15 +129,7 @@ adc_keeps : {A : Type 0} (F : Fields → A) → ((f : Fields) (n : ℕ) → F (a
 adc_keeps F h adc.Hclk f = refl
 adc_keeps F h (adc.UsbHsPll d) f = h f d
 
--- Step 24 writes the divisor less one, where USBHS feeds the ADC; steps 25 and 26 keep it.
-adc_laid : (a : AdcClockSource) (on : Bool) (sys : ℕ) (f : Fields) (seen : Seen) → DivisorFits a →
-    let g = cond (from_usb_hs a) (adc_divisor a f) f in
-    AdcLaid a (with_seen (switch sys (cond on (gate true g) g)) seen)
-adc_laid adc.Hclk on sys f seen fits = tt
-adc_laid (adc.UsbHsPll d) true sys f seen fits = omega (arith, fits.low)
-adc_laid (adc.UsbHsPll d) false sys f seen fits = omega (arith, fits.low)
-
-module _ (c : Config) {x : Promise} (q : check_of c ≡ gives x) (earlier : Fields) (width : Wide earlier) where
+module _ (c : Config) {x : ClockRecord} (q : check_of c ≡ gives x) (earlier : Fields) (width : Wide earlier) where
   abbrev ok : Accepted c
   ok = accepted_tells c q
 
@@ -187,9 +176,6 @@ module _ (c : Config) {x : Promise} (q : check_of c ≡ gives x) (earlier : Fiel
             main_laid c.pll_src c.pll before (with_seen last (seen_of r))
             (keeps (λ f. f.cfgr0.pllsrc) (λ f. refl) (λ f. refl) (λ f n. refl))
             (keeps (λ f. f.cfgr0.pllmul) (λ f. refl) (λ f. refl) (λ f n. refl));
-        adcpre = keeps (λ f. f.cfgr0.adcpre) (λ f. refl) (λ f. refl) (λ f n. refl);
-        adcsrc = keeps (λ f. f.cfgr0.adcsrc) (λ f. refl) (λ f. refl) (λ f n. refl);
-        divisor = adc_laid c.adc_src (eqb c.sys 2) c.sys mid (seen_of r) ok.divisor;
         usbhs =
             usbhs_laid c c.hspll twelve (with_seen last (seen_of r))
             (keeps (λ f. f.cfgr2.usbhspllsrc) (λ f. refl) (λ f. refl) (λ f n. refl) ∙ ap (λ r. r.usbhspllsrc) two)
@@ -199,23 +185,19 @@ module _ (c : Config) {x : Promise} (q : check_of c ≡ gives x) (earlier : Fiel
   eqb_self : (n : ℕ) → eqb n n ≡ true
   eqb_self n = eq-eqb n n refl
 
-  same_told : (told : Bool) (k : ClockRecord) → same_record told (record { six = k.six; ratio = cond told k.ratio nothing }) k ≡ true
-  same_told true k = simp eqb_self
-  same_told false k = simp eqb_self
+  same_self : (k : Clocks) → same_clocks k k ≡ true
+  same_self k = simp eqb_self
 
   -- What holds at step 28.
   abbrev pub Ends : ℕ → Fields → Type 0
-  Ends k f = (k ≡ 28) × (f ≡ with_seen (written (steps c x.clocks) earlier) f.seen) × (decode_of f (hse_frequency_of c.hse) ≡ gives (as_told c x.clocks f.seen))
+  Ends k f = (k ≡ 28) × (f ≡ with_seen (written (steps c x.clocks) earlier) f.seen) × (decode_of f (hse_frequency_of c.hse) ≡ gives x.clocks)
 
-  decodes : (r : Reading) → eqb (seen_of r).sws c.sys ≡ true →
-      decode_of (with_seen last (seen_of r)) (hse_frequency_of c.hse) ≡ gives (as_told c x.clocks (seen_of r))
+  decodes : (r : Reading) → eqb (seen_of r).sws c.sys ≡ true → decode_of (with_seen last (seen_of r)) (hse_frequency_of c.hse) ≡ gives x.clocks
   decodes r e = laid_decodes c (with_seen last (seen_of r)) q (laid r e)
 
   agrees : (r : Reading) → eqb (seen_of r).sws c.sys ≡ true → agrees_of c x.clocks (with_seen last (seen_of r)) ≡ true
   unfolding agrees_of
-  agrees r e =
-      let told = tells_ratio c.adc_src (seen_of r) in
-      ap (λ (a : Answer ClockRecord). is_record told a x.clocks) (decodes r e) ∙ same_told told x.clocks
+  agrees r e = ap (λ (a : Answer Clocks). is_clocks a x.clocks) (decodes r e) ∙ same_self x.clocks
 
   pub ending : Always Ends 1 (steps c x.clocks) earlier
   ending =

@@ -29,7 +29,6 @@ use Rattle.profile.specs.Order as profileOrder
 use Rattle.image.specs.Image.{read_image_says, image_bytes}
 use Rattle.image.specs.Image as image
 use Rattle.image.specs.Order as imageOrder
-use Rattle.decoder.specs.Decode.{decoded_says, decoded_settled}
 use Rattle.decoder.specs.Queries.{query_says, query_settled}
 use Rattle.decoder.proofs.Order.{decode_in_order, adc_in_order, rng_in_order}
 use Rattle.startup.specs.Call.{started_says, started_settled}
@@ -160,7 +159,7 @@ demand1 = record {
   write_profile =
       answers outcome_says _ (λ n. refl) outcome_settled (λ x. writes 10 (profile_bytes x.0) x.1 ∙ profileOrder.write_in_order x.0 x.1);
   write_image = answers outcome_says _ (λ n. refl) outcome_settled (λ x. writes 8 (image_bytes x.0) x.1 ∙ imageOrder.write_in_order x.0 x.1);
-  decode = answers decoded_says _ (λ n. refl) decoded_settled (λ x. decode_in_order x.0 x.1);
+  decode = answers buses_says _ (λ n. refl) buses_settled (λ x. decode_in_order x.0 x.1);
   adc_query = answers query_says _ (λ n. refl) query_settled (λ x. adc_in_order x.0 x.1);
   rng_query = answers query_says _ (λ n. refl) query_settled (λ x. rng_in_order x.0 x.1);
   start =

@@ -6,7 +6,7 @@ use mathlib.Core.Bool.{true}
 use mathlib.Core.List.{List, [], ◌∷◌}
 use Rattle.answer.specs.Answer.{Answer, gives}
 use Rattle.v4x7.specs.declared.Config.{Config}
-use Rattle.v4x7.specs.declared.Promise.{Promise}
+use Rattle.v4x7.specs.declared.ClockRecord.{ClockRecord}
 use Rattle.v4x7.specs.Check.{check_of}
 use Rattle.image.specs.declared.Fields.{Fields}
 use Rattle.image.specs.Image.{in_width}
@@ -36,7 +36,7 @@ by_value : (n : ℕ) (h : Calls) (s : Startup) → (runs plain s (first_calls n 
 by_value zero h s = refl
 by_value (suc n) h s = by_value n (λ i. h (suc i)) (step_of s (h 0).0).startup
 
-module _ (c : Config) {x : Promise} (q : check_of c ≡ gives x) where
+module _ (c : Config) {x : ClockRecord} (q : check_of c ≡ gives x) where
   abbrev P : List Entry
   P = steps c x.clocks
 

@@ -9,7 +9,6 @@ use lib.ListN.{drop}
 use Rattle.answer.specs.Answer.{gives}
 use Rattle.divider.specs.Divide.{ahb_of, ahb_divisor, ahb_divisors, apb_of, apb_divisor, by_ahb_of, apb_quotient_of}
 use Rattle.divider.specs.Frequency.{over}
-use Rattle.fraction.specs.Fraction.{repeated, gcd_of, lowest_of}
 use Rattle.tree.specs.Tree.{clocks_of, below_of, bus_of, timer_clock}
 use Rattle.v4x7_rules.specs.Rules.{hse_in_range, used_hse_of, main_pll_input, main_pll_of, eth_pll_of, reference_code_of, two_thirds, sys_pll_of, buses_of, total_of, adc_from_hclk_of, adc_from_usb_hs_of}
 use Rattle.v4x7.specs.declared.Hse.TheVariants as hse
@@ -17,7 +16,7 @@ use Rattle.v4x7.specs.declared.Pll.TheVariants as pll
 use Rattle.v4x7.specs.declared.HsPll.TheVariants as hspll
 use Rattle.v4x7.specs.declared.AdcClockSource.TheVariants as adc
 use Rattle.v4x7.specs.declared.Config.{Config}
-use Rattle.v4x7.specs.declared.Promise.{Promise}
+use Rattle.v4x7.specs.declared.ClockRecord.{ClockRecord}
 use Rattle.v4x7.specs.Check.{check_of, named, sources_of, rng_of, hse_present_of, main_of, eth_of}
 use Rattle.v4x7.specs.Check.{usb_hs_of, reference_of, sys_pll_input_of, sysclk_of, system_of, adc_ratio_of, limits_of, adc_of}
 use Rattle.image.specs.declared.Fields.{Fields}
@@ -55,13 +54,10 @@ busiest =
       adc_duty = 1;
     }
 
-abbrev pub promised : Promise
+abbrev pub promised : ClockRecord
 promised =
     record {
-      clocks = record {
-        six = record { sysclk = 200000000; hclk = 100000000; pclk1 = 100000000; pclk2 = 100000000; pclk1_tim = 100000000; pclk2_tim = 100000000 };
-        ratio = record { source = 7500000; divisor = 1 };
-      };
+      clocks = record { sysclk = 200000000; hclk = 100000000; pclk1 = 100000000; pclk2 = 100000000; pclk1_tim = 100000000; pclk2_tim = 100000000 };
       adc = 7500000;
     }
 
@@ -69,7 +65,7 @@ pub accepted : check_of busiest ≡ gives promised
 unfolding check_of named system_of sources_of rng_of hse_present_of hse_in_range used_hse_of main_of main_pll_input main_pll_of eth_of eth_pll_of usb_hs_of reference_of
     reference_code_of sysclk_of sys_pll_input_of two_thirds
     sys_pll_of buses_of clocks_of below_of bus_of timer_clock adc_of adc_ratio_of limits_of adc_from_hclk_of adc_from_usb_hs_of total_of ahb_of ahb_divisor
-    ahb_divisors apb_of apb_divisor by_ahb_of apb_quotient_of over lowest_of gcd_of repeated
+    ahb_divisors apb_of apb_divisor by_ahb_of apb_quotient_of over
 accepted = refl
 
 -- All fields clear.

@@ -31,7 +31,7 @@ use Rattle.v4x7_rules.specs.Rules.{hse_in_range, used_hse_of, main_pll_of, eth_p
 use Rattle.v4x7_rules.specs.Plain.{outside, allowed}
 use Rattle.v4x7_rules.specs.Order as rules
 use Rattle.v4x7.specs.declared.Config.{Config}
-use Rattle.v4x7.specs.declared.Promise.{Promise}
+use Rattle.v4x7.specs.declared.ClockRecord.{ClockRecord}
 use Rattle.v4x7.specs.declared.Checked.TheVariants as checked
 use Rattle.v4x7.specs.Check.{checked_says, check_of}
 use Rattle.v4x7.specs.Order.{check_tests}
@@ -42,8 +42,7 @@ use Rattle.image.specs.declared.Fields.{Fields}
 use Rattle.image.specs.Image.{read_image_says, read_image, image_bytes}
 use Rattle.image.specs.declared.ReadImage.TheVariants as image
 use Rattle.image.specs.Order as imageOrder
-use Rattle.decoder.specs.Decode.{decoded_says, decode_of}
-use Rattle.decoder.specs.declared.Decoded.TheVariants as decoded
+use Rattle.decoder.specs.Decode.{decode_of}
 use Rattle.decoder.specs.Queries.{query_says, adc_query_of, rng_query_of}
 use Rattle.decoder.specs.declared.Query.TheVariants as query
 use Rattle.decoder.specs.Order.{decode_tests, query_tests}
@@ -158,7 +157,7 @@ pub record Demand1 : Type 1 where
   pub write_profile :
       Answers outcome_says outcome.Refused (λ (x : Config × List ℕ). write_of 10 (profile_bytes x.0) x.1) (λ x. profileOrder.write_tests x.0 x.1)
   pub write_image : Answers outcome_says outcome.Refused (λ (x : Fields × List ℕ). write_of 8 (image_bytes x.0) x.1) (λ x. imageOrder.write_tests x.0 x.1)
-  pub decode : Answers decoded_says decoded.Refused (λ (x : Fields × HseFrequency). decode_of x.0 x.1) (λ x. decode_tests x.0 x.1)
+  pub decode : Answers buses_says buses.Refused (λ (x : Fields × HseFrequency). decode_of x.0 x.1) (λ x. decode_tests x.0 x.1)
   pub adc_query : Answers query_says query.Refused (λ (x : Fields × ℕ). adc_query_of x.0 x.1) (λ x. query_tests x.0)
   pub rng_query : Answers query_says query.Refused (λ (x : Fields × ℕ). rng_query_of x.0 x.1) (λ x. query_tests x.0)
   pub start : Answers started_says started.NotStarted (λ (x : Config × Fields). start_of x.0 x.1) (λ x. start_tests (check_tests x.0) x.1)
@@ -166,7 +165,7 @@ pub record Demand1 : Type 1 where
   pub waits : Answers reply_says reply.Refused waits_owed_of owed_tests
   pub calls : Answers reply_says reply.Refused call_bound_of owed_tests
   -- one call of a startup that is not over: 28 where its configuration is not accepted, else by its list; one that is over repeats its last answer
-  pub step : (s : Startup) (r : Reading) {x : Promise} → s.phase ≡ Going → check_of s.config ≡ gives x →
+  pub step : (s : Startup) (r : Reading) {x : ClockRecord} → s.phase ≡ Going → check_of s.config ≡ gives x →
       told_by (step_of s r).report ≡ first_of (step_tests x.clocks s r)
   pub unaccepted : (s : Startup) (r : Reading) {n : ℕ} → s.phase ≡ Going → check_of s.config ≡ refuses n → step_of s r ≡ handed_back s
   -- V1 and L1: the check, the fields, the decoder

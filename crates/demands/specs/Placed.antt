@@ -3,9 +3,9 @@
 -- Assumes nothing.
 use Rattle.std.specs.Prelude.{ℕ, zero, suc, ◌≡◌, refl, Bool, true, false, cond, List, [], ◌∷◌, eqb, drop}
 use Rattle.answer.specs.Answer.{gives}
-use Rattle.v4x7_rules.specs.declared.ClockRecord.{ClockRecord}
+use Rattle.tree.specs.declared.Clocks.{Clocks}
 use Rattle.v4x7.specs.declared.Config.{Config}
-use Rattle.v4x7.specs.declared.Promise.{Promise}
+use Rattle.v4x7.specs.declared.ClockRecord.{ClockRecord}
 use Rattle.v4x7.specs.Check.{check_of}
 use Rattle.image.specs.declared.Seen.{Seen}
 use Rattle.image.specs.declared.Fields.{Fields}
@@ -107,7 +107,7 @@ pub worked : let ticks : ℕ → ℕ → ℕ → ℕ = λ limit mode k. ticks_of
 worked = (refl, refl, refl, refl, refl, refl, refl, refl, refl)
 
 -- What is shown of a place in which a startup begins, and which then is handed to n calls.
-pub record Placed (c : Config) (promised : ClockRecord) (earlier : Fields) (before : Ticked) (h : Calls) (after : ℕ → Ticked) : Type 0 where
+pub record Placed (c : Config) (promised : Clocks) (earlier : Fields) (before : Ticked) (h : Calls) (after : ℕ → Ticked) : Type 0 where
   -- Starting answers 0 and leaves a startup of which no wait is met, whatever was there.
   pub starts : ((started_in before (start_of c earlier)).number ≡ 0) × ((started_in before (start_of c earlier)).place ≡ begun_with (begun c earlier))
   -- After n calls the place holds the startup that the calls by value come to with the same readings,
@@ -122,5 +122,5 @@ pub record Placed (c : Config) (promised : ClockRecord) (earlier : Fields) (befo
 
 abbrev pub Demand3InPlace : Type 0
 Demand3InPlace =
-    (c : Config) (x : Promise) → check_of c ≡ gives x → (earlier : Fields) → in_width earlier ≡ true → (before : Ticked) (h : Calls) →
+    (c : Config) (x : ClockRecord) → check_of c ≡ gives x → (earlier : Fields) → in_width earlier ≡ true → (before : Ticked) (h : Calls) →
     Placed c x.clocks earlier before h (λ n. (runs in_place (begun_with (begun c earlier)) (first_calls n h)).0)

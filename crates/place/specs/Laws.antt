@@ -6,8 +6,8 @@ use Rattle.std.proofs.Math.Path.{refl}
 use Rattle.std.proofs.Common.{sym, ap, ◌∙◌, inl, inr, ⊎_elim}
 use Rattle.answer.specs.Tools.{false_true, by_cond}
 use Rattle.answer.specs.Answer.{Answer, gives, refuses}
-use Rattle.v4x7_rules.specs.declared.ClockRecord.{ClockRecord}
-use Rattle.v4x7.specs.declared.Promise.{Promise}
+use Rattle.tree.specs.declared.Clocks.{Clocks}
+use Rattle.v4x7.specs.declared.ClockRecord.{ClockRecord}
 use Rattle.v4x7.specs.Check.{named_of, check_of}
 use Rattle.image.specs.declared.Seen.{Seen}
 use Rattle.image.specs.declared.Fields.{Fields}
@@ -40,7 +40,7 @@ pub refused_stays : (t : Ticked) (r : Reading) (tick : ℕ) {n : ℕ} → (stepp
 unfolding stepped_in
 refused_stays t r tick e = rw e
 
-failed_phase : (bad : Bool) (check : Answer Promise) (s : Startup) (r : Reading) (p : Phase) → s.phase ≡ p → {n step used : ℕ} →
+failed_phase : (bad : Bool) (check : Answer ClockRecord) (s : Startup) (r : Reading) (p : Phase) → s.phase ≡ p → {n step used : ℕ} →
     let x = cond bad (handed_back s) (step_by check s r p) in x.report ≡ Failed n step used → x.startup.phase ≡ Over (Failed n step used)
 failed_phase true check s r p q e = cc
 failed_phase false check s r (Over last) q e = q ∙ ap Over e
@@ -91,7 +91,7 @@ says (shows h) e = cc
 says (differs h) e = cc
 says (ends h) e = cc
 
-compared_any : (x : ClockRecord) (s : Startup) (r r' : Reading) {same : Bool} → comes_to x s r ≡ compared same → comes_to x s r' ≡ compared same
+compared_any : (x : Clocks) (s : Startup) (r r' : Reading) {same : Bool} → comes_to x s r ≡ compared same → comes_to x s r' ≡ compared same
 unfolding work_of call_of
 compared_any x s r r' e =
     let listed = listed_of s.config s.step in
@@ -119,7 +119,7 @@ module _ (s : Startup) where
   abbrev bad_code : Bool
   bad_code = not (named_of s.config) || not (in_width s.fields)
 
-  module _ (code : bad_code ≡ false) (phase : s.phase ≡ Going) {x : Promise} (check : check_of s.config ≡ gives x) where
+  module _ (code : bad_code ≡ false) (phase : s.phase ≡ Going) {x : ClockRecord} (check : check_of s.config ≡ gives x) where
     abbrev comes : Reading → Event → Stepped
     comes r e = came_to (next_of s.config s.step) s (seeing s r) e
 
@@ -139,7 +139,7 @@ module _ (s : Startup) where
         sym (calls r' ∙ ap (comes r') (compared_any x.clocks s r r' e)))
         (leaving (next_of s.config s.step) s (seeing s r) (comes_to x.clocks s r) h)
 
-  again_by : (r : Reading) (test : Bool) → bad_code ≡ test → (check : Answer Promise) → check_of s.config ≡ check →
+  again_by : (r : Reading) (test : Bool) → bad_code ≡ test → (check : Answer ClockRecord) → check_of s.config ≡ check →
       (p : Phase) → s.phase ≡ p → Again s (cond test (handed_back s) (step_by check s r p))
   again_by r true code check c p ph h r' = refl
   again_by r false code (refuses n) c Going ph h r' = refl

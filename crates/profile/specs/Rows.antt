@@ -5,7 +5,6 @@ use Rattle.std.specs.Prelude.{◌≡◌, refl, Bool, true, false, List, [], ◌�
 use Rattle.answer.specs.Answer.{Answer, gives, refuses, ◌>>=◌}
 use Rattle.divider.specs.Divide.{ahb_of, ahb_divisor, ahb_divisors, apb_of, apb_divisor, by_ahb_of, apb_quotient_of}
 use Rattle.divider.specs.Frequency.{over}
-use Rattle.fraction.specs.Fraction.{repeated, gcd_of, lowest_of}
 use Rattle.tree.specs.Tree.{clocks_of, below_of, bus_of, timer_clock}
 use Rattle.v4x7_rules.specs.Rules.{hse_in_range, used_hse_of, main_pll_input, main_pll_of, eth_pll_of, reference_code_of, two_thirds, sys_pll_of, buses_of}
 use Rattle.v4x7_rules.specs.Rules.{total_of, adc_from_hclk_of, adc_from_usb_hs_of}
@@ -18,7 +17,7 @@ use Rattle.v4x7.specs.declared.HsPll.TheVariants as hspll
 use Rattle.v4x7.specs.declared.AdcClockSource.{AdcClockSource}
 use Rattle.v4x7.specs.declared.AdcClockSource.TheVariants as source
 use Rattle.v4x7.specs.declared.Config.{Config}
-use Rattle.v4x7.specs.declared.Promise.{Promise}
+use Rattle.v4x7.specs.declared.ClockRecord.{ClockRecord}
 use Rattle.v4x7.specs.Check.{check_of, named, sources_of, rng_of, hse_present_of, main_of, eth_of}
 use Rattle.v4x7.specs.Check.{usb_hs_of, reference_of, sys_pll_input_of, sysclk_of, system_of, adc_ratio_of, limits_of, adc_of}
 use Rattle.layout.specs.Bits.{bits_at}
@@ -86,28 +85,24 @@ adc_by code (h, m, s, v, u, e, a, b, f, p) = (h, m, s, v, u, e, a, b, f, code)
 
 -- What a row asks of the check's answer.
 abbrev Asks : Type 0
-Asks = Promise → List ℕ
+Asks = ClockRecord → List ℕ
 
 sysclk : Asks
-sysclk a = a.clocks.six.sysclk ∷ []
+sysclk a = a.clocks.sysclk ∷ []
 
 hclk : Asks
-hclk a = a.clocks.six.hclk ∷ []
+hclk a = a.clocks.hclk ∷ []
 
 adc : Asks
 adc a = a.adc ∷ []
 
 -- PCLK2, its timer, ADC
 slow : Asks
-slow a = a.clocks.six.pclk2 ∷ a.clocks.six.pclk2_tim ∷ a.adc ∷ []
+slow a = a.clocks.pclk2 ∷ a.clocks.pclk2_tim ∷ a.adc ∷ []
 
 -- the seven numbers of the program
 seven : Asks
-seven a = let k = a.clocks.six in k.sysclk ∷ k.hclk ∷ k.pclk1 ∷ k.pclk2 ∷ k.pclk1_tim ∷ k.pclk2_tim ∷ a.adc ∷ []
-
--- the ADC's source and divisor in lowest terms
-ratio : Asks
-ratio a = a.clocks.ratio.source ∷ a.clocks.ratio.divisor ∷ []
+seven a = let k = a.clocks in k.sysclk ∷ k.hclk ∷ k.pclk1 ∷ k.pclk2 ∷ k.pclk1_tim ∷ k.pclk2_tim ∷ a.adc ∷ []
 
 pub record Row : Type 0 where
   pub profile : List ℕ
@@ -161,18 +156,6 @@ rows =
     -- A11 profile 00 00 00 00 00 18 00 00 00 34 is the source's default; the seven numbers of the program
     ∷ row (0x00 ∷ 0x00 ∷ 0x00 ∷ 0x00 ∷ 0x00 ∷ 0x18 ∷ 0x00 ∷ 0x00 ∷ 0x00 ∷ 0x34 ∷ [])
     default seven (gives (20000000 ∷ 20000000 ∷ 20000000 ∷ 20000000 ∷ 20000000 ∷ 20000000 ∷ 2500000 ∷ []))
-    -- Document 02, K6: 100,000,012 (A6) over 8 becomes 25,000,003 over 2
-    ∷ row (0x80 ∷ 0x1E ∷ 0x84 ∷ 0x80 ∷ 0x6C ∷ 0xB8 ∷ 0x00 ∷ 0x00 ∷ 0x00 ∷ 0x34 ∷ [])
-    (hse_at 8000001 (main_pll 1 5 (system 2 default))) ratio (gives (25000003 ∷ 2 ∷ []))
-    -- 166,666,666, as SYSCLK is printed (A7), over 8: 83,333,333 over 4
-    ∷ row (0x80 ∷ 0x5F ∷ 0x5E ∷ 0x10 ∷ 0x20 ∷ 0x0C ∷ 0x88 ∷ 0x00 ∷ 0x00 ∷ 0x34 ∷ [])
-    (hse_at 25000000 (eth_pll (sys_pll 3 1 default))) ratio (gives (83333333 ∷ 4 ∷ []))
-    -- 5,000,000 over 65,536, the largest divisor (A10): 78,125 over 1,024
-    ∷ row (0x80 ∷ 0x13 ∷ 0x12 ∷ 0xD0 ∷ 0x10 ∷ 0x18 ∷ 0x07 ∷ 0x8E ∷ 0x00 ∷ 0x34 ∷ [])
-    (hse_at 5000000 (system 1 (ahb 15 (apb2 7 (adc_by 3 default))))) ratio (gives (78125 ∷ 1024 ∷ []))
-    -- 480,000,000 over 16, the ADC from USBHS (A9): 30,000,000 over 1
-    ∷ row (0x00 ∷ 0x00 ∷ 0x00 ∷ 0x00 ∷ 0x00 ∷ 0x18 ∷ 0x50 ∷ 0x00 ∷ 0x40 ∷ 0xB4 ∷ [])
-    (usb_hs_pll 1 (adc_from 2 (adc_by 3 default))) ratio (gives (30000000 ∷ 1 ∷ []))
     ∷ []
 
 -- Reading a row's bytes gives its configuration, and the check of that says what the row says.
@@ -188,10 +171,10 @@ pub wanted : Row → Answer Config × Answer (List ℕ)
 wanted r = (gives (config r.parts), r.says)
 
 pub rows_hold : map found rows ≡ map wanted rows
-unfolding found wanted rows row config default hse_at main_pll system sys_pll usb_hs_pll eth_pll ahb apb2 adc_from adc_by sysclk hclk adc slow seven ratio
+unfolding found wanted rows row config default hse_at main_pll system sys_pll usb_hs_pll eth_pll ahb apb2 adc_from adc_by sysclk hclk adc slow seven
     read_profile tests config_of bits_at check_of named sources_of rng_of hse_present_of hse_in_range used_hse_of main_of main_pll_of main_pll_input
     eth_of eth_pll_of usb_hs_of reference_of reference_code_of system_of sysclk_of sys_pll_input_of sys_pll_of two_thirds buses_of clocks_of below_of bus_of timer_clock adc_of
-    adc_ratio_of limits_of adc_from_hclk_of adc_from_usb_hs_of total_of ahb_of ahb_divisor ahb_divisors apb_divisor by_ahb_of apb_quotient_of apb_of over lowest_of gcd_of repeated
+    adc_ratio_of limits_of adc_from_hclk_of adc_from_usb_hs_of total_of ahb_of ahb_divisor ahb_divisors apb_divisor by_ahb_of apb_quotient_of apb_of over
 rows_hold = refl
 
 -- Three profiles whole, from their bytes to the check's answer: rows A11 and A2, and one whose seven frequencies all differ: HSI, AHB by 2, APB1 by 4, APB2
@@ -207,15 +190,12 @@ abbrev pub divided_profile : List ℕ
 divided_profile = 0x00 ∷ 0x00 ∷ 0x00 ∷ 0x00 ∷ 0x00 ∷ 0x18 ∷ 0x04 ∷ 0x5E ∷ 0x00 ∷ 0x34 ∷ []
 
 pub a11 : check_profile a11_profile ≡ gives (record {
-  clocks = record {
-    six = record { sysclk = 20000000; hclk = 20000000; pclk1 = 20000000; pclk2 = 20000000; pclk1_tim = 20000000; pclk2_tim = 20000000 };
-    ratio = record { source = 2500000; divisor = 1 };
-  };
+  clocks = record { sysclk = 20000000; hclk = 20000000; pclk1 = 20000000; pclk2 = 20000000; pclk1_tim = 20000000; pclk2_tim = 20000000 };
   adc = 2500000;
 })
 unfolding check_profile read_profile tests config_of bits_at check_of named sources_of rng_of hse_present_of main_of eth_of usb_hs_of system_of sysclk_of
     buses_of clocks_of below_of bus_of timer_clock adc_of adc_ratio_of limits_of adc_from_hclk_of total_of ahb_of ahb_divisor ahb_divisors apb_divisor by_ahb_of apb_quotient_of
-    apb_of over lowest_of gcd_of repeated
+    apb_of over
 a11 = refl
 
 pub a2 : check_profile a2_profile ≡ refuses 4
@@ -223,13 +203,10 @@ unfolding check_profile read_profile tests config_of bits_at check_of named syst
 a2 = refl
 
 pub divided : check_profile divided_profile ≡ gives (record {
-  clocks = record {
-    six = record { sysclk = 20000000; hclk = 10000000; pclk1 = 2500000; pclk2 = 625000; pclk1_tim = 5000000; pclk2_tim = 1250000 };
-    ratio = record { source = 78125; divisor = 1 };
-  };
+  clocks = record { sysclk = 20000000; hclk = 10000000; pclk1 = 2500000; pclk2 = 625000; pclk1_tim = 5000000; pclk2_tim = 1250000 };
   adc = 78125;
 })
 unfolding check_profile read_profile tests config_of bits_at check_of named sources_of rng_of hse_present_of main_of eth_of usb_hs_of system_of sysclk_of
     buses_of clocks_of below_of bus_of timer_clock adc_of adc_ratio_of limits_of adc_from_hclk_of total_of ahb_of ahb_divisor ahb_divisors apb_divisor by_ahb_of apb_quotient_of
-    apb_of over lowest_of gcd_of repeated
+    apb_of over
 divided = refl

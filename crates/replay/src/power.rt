@@ -1,10 +1,9 @@
 // Whole startups over a script of readings, and one call of a startup as it stands.
 use crate::script::Cursor;
 use crate::{query, reply, script};
-use decoder::Decoded;
 use image::Fields;
 use startup::{FlashKey, Phase, Report, Started, Startup};
-use tree::HseFrequency;
+use tree::{Buses, HseFrequency};
 use v4x7::Hse;
 
 // A run so far: the startup, the last report and whether there was one, the script's place, the calls, and how many of them named step 19.
@@ -128,33 +127,17 @@ fn frequency(hse: Hse) -> HseFrequency {
     }
 }
 
-// The fields decoded with the configuration's HSE.
-fn decoded(startup: Startup) -> Decoded {
+// The fields decoded with the configuration's HSE, where the startup runs.
+fn put_decoded(a: [u8; 64], startup: Startup) -> [u8; 64] {
+    if over(startup) != 1 {
+        return a;
+    }
     let config = startup.config;
     let hse = config.hse;
     let fields = startup.fields;
-    decoder::decode(fields, frequency(hse))
-}
-
-// The decoded clocks, where the startup runs.
-fn put_clocks(a: [u8; 64], startup: Startup) -> [u8; 64] {
-    if over(startup) != 1 {
-        return a;
-    }
-    match decoded(startup) {
-        Decoded::Refused(_) => a,
-        Decoded::Run(found) => reply::clocks(a, 20, found.six),
-    }
-}
-
-// The decoded ratio of the ADC from a place on, where the startup runs.
-pub fn put_ratio(a: [u8; 64], at: usize, startup: Startup) -> [u8; 64] {
-    if over(startup) != 1 {
-        return a;
-    }
-    match decoded(startup) {
-        Decoded::Refused(_) => a,
-        Decoded::Run(found) => reply::ratio(a, at, found.ratio),
+    match decoder::decode(fields, frequency(hse)) {
+        Buses::Refused(_) => a,
+        Buses::Run(k) => reply::clocks(a, 20, k),
     }
 }
 
@@ -197,7 +180,7 @@ fn told(kind: u8, r: Run) -> [u8; 64] {
     let b = reply::word(reply::byte(a, 3, over(startup)), 4, used(report, startup));
     put_unmet(
         put_keys(
-            put_clocks(put_image(reply::word(b, 8, r.calls), 12, fields), startup),
+            put_decoded(put_image(reply::word(b, 8, r.calls), 12, fields), startup),
             r.keyed,
         ),
         startup.unmet,

@@ -1,7 +1,6 @@
 // The parts of an answer.
 use answer::Reply;
 use divider::Rate;
-use fraction::Fraction;
 use tree::{Buses, Clocks};
 
 // An answer's kind and refusal number, and nothing else.
@@ -43,11 +42,6 @@ pub fn words(a: [u8; 64], at: usize, x: u32, y: u32) -> [u8; 64] {
         return a;
     }
     word(word(a, at, x), at + 4, y)
-}
-
-// The ADC's ratio from a place on: source, then divisor.
-pub fn ratio(a: [u8; 64], at: usize, x: Fraction) -> [u8; 64] {
-    words(a, at, x.source, x.divisor)
 }
 
 // A number at byte 2, or the refusal number.

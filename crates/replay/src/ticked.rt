@@ -76,8 +76,7 @@ fn told(r: Run) -> [u8; 64] {
         4,
         power::used(report, startup),
     );
-    let c = power::put_image(put_ticks(b, waits), 44, fields);
-    power::put_ratio(c, 52, startup)
+    power::put_image(put_ticks(b, waits), 44, fields)
 }
 
 pub fn startup(q: &[u8; 128]) -> [u8; 64] {

@@ -1,6 +1,6 @@
 // The V4x7 check, decoder and queries.
 use crate::{query, reply};
-use decoder::{Decoded, Query};
+use decoder::Query;
 use v4x7::Checked;
 
 pub fn check(q: &[u8; 128]) -> [u8; 64] {
@@ -9,20 +9,16 @@ pub fn check(q: &[u8; 128]) -> [u8; 64] {
     let Checked::Accepted(accepted) = checked else {
         return reply::empty(1, v4x7::refused(checked));
     };
-    let promised = accepted.clocks;
-    let six = reply::clocks(reply::empty(1, 0), 2, promised.six);
-    reply::ratio(reply::word(six, 26, accepted.adc), 30, promised.ratio)
+    reply::word(
+        reply::clocks(reply::empty(1, 0), 2, accepted.clocks),
+        26,
+        accepted.adc,
+    )
 }
 
 pub fn decode(q: &[u8; 128]) -> [u8; 64] {
     let hse = query::frequency(q[34], query::word(q, 35));
-    match decoder::decode(query::fields(q, 1), hse) {
-        Decoded::Refused(n) => reply::empty(2, n),
-        Decoded::Run(found) => {
-            let six = reply::clocks(reply::empty(2, 0), 2, found.six);
-            reply::ratio(six, 26, found.ratio)
-        }
-    }
+    reply::run(2, decoder::decode(query::fields(q, 1), hse))
 }
 
 fn queried(kind: u8, answer: Query) -> [u8; 64] {

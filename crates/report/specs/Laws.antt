@@ -5,7 +5,7 @@ use Rattle.std.proofs.Common.{append-nil, arith, leb-true, le-leb, eqb-true, eq-
 use Rattle.std.proofs.Math.Seq.{drop-length}
 use Rattle.answer.specs.Answer.{Answer, gives, refuses}
 use Rattle.answer.specs.Tools.{and_left, and_right, and_both}
-use Rattle.v4x7.specs.declared.Promise.{Promise}
+use Rattle.v4x7.specs.declared.ClockRecord.{ClockRecord}
 use Rattle.profile.specs.Profile.{check_profile}
 use Rattle.text.specs.Text.{ascii, line_of}
 use Rattle.report.specs.Report.{lines_of, port_lines, text_of, sized, answered_of, report_of}
@@ -36,13 +36,13 @@ unfolding report_of answered_of text_of
 other_length s t = rw t
 
 -- document 01's text of a profile alone
-abbrev before : Answer Promise → List ℕ
-before (gives x) = lines_of x.clocks.six x.adc
+abbrev before : Answer ClockRecord → List ℕ
+before (gives x) = lines_of x.clocks x.adc
 before (refuses n) = line_of (ascii "refused") n
 
-no_port : (m : Answer Promise) → text_of m [] ≡ before m
+no_port : (m : Answer ClockRecord) → text_of m [] ≡ before m
 unfolding text_of port_lines
-no_port (gives x) = append-nil (lines_of x.clocks.six x.adc)
+no_port (gives x) = append-nil (lines_of x.clocks x.adc)
 no_port (refuses n) = refl
 
 -- with no port every byte is as before

@@ -4,7 +4,7 @@ use Rattle.std.specs.Prelude.{◌≡◌, refl, List, [], ◌∷◌, ◌++◌, �
 use Rattle.std.proofs.Common.{ap, ◌∙◌, lit≤}
 use Rattle.answer.specs.Answer.{Answer}
 use Rattle.tree.specs.declared.Clocks.{Clocks}
-use Rattle.v4x7.specs.declared.Promise.{Promise}
+use Rattle.v4x7.specs.declared.ClockRecord.{ClockRecord}
 use Rattle.profile.specs.Rows as rows
 use Rattle.profile.specs.Rows.{a11_profile, a2_profile}
 use Rattle.serial.specs.Serial.{nearest_of, divisor_of, port_of}
@@ -25,12 +25,12 @@ two_and_a_half = in_ten_digits 2500000 (lit≤ tt)
 pub a11 : report_of a11_profile
     ≡ ascii "sysclk 20000000\nhclk 20000000\npclk1 20000000\npclk2 20000000\npclk1_tim 20000000\npclk2_tim 20000000\nadc 2500000\n"
 unfolding report_of answered_of text_of lines_of line_of port_lines
-a11 = ap (λ (m : Answer Promise). text_of m []) rows.a11 ∙ simp (twenty, two_and_a_half)
+a11 = ap (λ (m : Answer ClockRecord). text_of m []) rows.a11 ∙ simp (twenty, two_and_a_half)
 
 -- row A2: HSE 4,999,999
 pub a2 : report_of a2_profile ≡ ascii "refused 4\n"
 unfolding report_of answered_of text_of line_of decimal digits
-a2 = ap (λ (m : Answer Promise). text_of m []) rows.a2
+a2 = ap (λ (m : Answer ClockRecord). text_of m []) rows.a2
 
 -- no byte at all
 pub none : report_of [] ≡ ascii "refused 29\n"
@@ -57,11 +57,11 @@ their_lines k e f = rw (e, f)
 -- a refused profile prints its one line only
 pub refused_with_ports : report_of (a2_profile ++ ports) ≡ ascii "refused 4\n"
 unfolding report_of answered_of text_of line_of decimal digits
-refused_with_ports = ap (λ (m : Answer Promise). text_of m ports) rows.a2
+refused_with_ports = ap (λ (m : Answer ClockRecord). text_of m ports) rows.a2
 
 -- the default's lines, and then those of its ports
 pub a11_with_ports : report_of (a11_profile ++ ports)
     ≡ ascii "sysclk 20000000\nhclk 20000000\npclk1 20000000\npclk2 20000000\npclk1_tim 20000000\npclk2_tim 20000000\nadc 2500000\n"
     ++ ascii "brr 174 error -44800\nrefused 28\nrefused 33\nrefused 34\n"
 unfolding report_of answered_of text_of lines_of line_of
-a11_with_ports = ap (λ (m : Answer Promise). text_of m ports) rows.a11 ∙ simp (twenty, two_and_a_half, their_lines default refl refl)
+a11_with_ports = ap (λ (m : Answer ClockRecord). text_of m ports) rows.a11 ∙ simp (twenty, two_and_a_half, their_lines default refl refl)

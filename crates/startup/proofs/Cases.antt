@@ -5,8 +5,8 @@ use mathlib.Core.Path.{◌≡◌, refl, sym, ap, ap₂, ◌∙◌}
 use mathlib.Core.Bool.{Bool, true, false, cond, not, ◌||◌}
 use lib.Dec.{ltb}
 use Rattle.answer.specs.Answer.{Answer}
-use Rattle.v4x7_rules.specs.declared.ClockRecord.{ClockRecord}
-use Rattle.v4x7.specs.declared.Promise.{Promise}
+use Rattle.tree.specs.declared.Clocks.{Clocks}
+use Rattle.v4x7.specs.declared.ClockRecord.{ClockRecord}
 use Rattle.v4x7.specs.declared.Checked.{Checked}
 use Rattle.v4x7.specs.Check.{checked_says, named_of, check_of}
 use Rattle.image.specs.declared.Seen.{Seen}
@@ -29,7 +29,7 @@ abbrev pub came : Startup → Fields → Event → Stepped
 came s f e = came_to (next_of s.config s.step) s f e
 
 -- What `perform` answered, w, with the ready bits and SWS that the reading shows, is the step's work; what `next` answered is the step after it.
-module _ (s : Startup) (r : Reading) (x : ClockRecord) {seen : Seen} {after : ℕ} {w : Work}
+module _ (s : Startup) (r : Reading) (x : Clocks) {seen : Seen} {after : ℕ} {w : Work}
     (es : seen ≡ seen_of r) (ea : after ≡ next_of s.config s.step) (ew : w ≡ work_of s.config x s.step s.fields seen) where
   pub by_work : (v : Work) → w ≡ v →
       came_to after s (seeing s r) (event_of 1000000 s r v) ≡
@@ -75,7 +75,7 @@ module _ (s : Startup) (r : Reading) {w : Bool} (ew : w ≡ in_width s.fields) w
         step_by (checked_says j) s r Going ≡ step_of s r
     unfolding check_of
     call_by p ek j q =
-        ap (λ (a : Answer Promise). step_by a s r Going) (ap checked_says (sym q) ∙ ek)
+        ap (λ (a : Answer ClockRecord). step_by a s r Going) (ap checked_says (sym q) ∙ ek)
         ∙ by_names (named_of s.config) refl ∙ ap (λ (h : Phase). cond (not (named_of s.config)) (handed_back s) (step_by (check_of s.config) s r h)) (sym p)
         ∙ in_width_lem
       where

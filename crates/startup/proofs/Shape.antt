@@ -11,7 +11,7 @@ use native.Mathlib.Numerals.{add-one}
 use borrow.Author.Tests.{le-leb, lt-leb, leb-true, leb-false}
 use lib.Dec.{leb}
 use lib.ListN.{drop, length, drop_of_length-le}
-use Rattle.v4x7_rules.specs.declared.ClockRecord.{ClockRecord}
+use Rattle.tree.specs.declared.Clocks.{Clocks}
 use Rattle.v4x7.specs.declared.Config.{Config}
 use Rattle.image.specs.declared.Seen.{Seen}
 use Rattle.image.specs.declared.Fields.{Fields}
@@ -72,7 +72,7 @@ beyond : (n k : ℕ) → NoneOf n k → 0 < k → n < k
 beyond zero k r h = h
 beyond (suc n) k r h = let b = beyond n k r.0 h in let o = r.1 in omega arith
 
-pub not_listed : (c : Config) (x : ClockRecord) (f : Fields) (s : Seen) (k : ℕ) → NoneOf 28 k → NotListed ≡ work_of c x k f s
+pub not_listed : (c : Config) (x : Clocks) (f : Fields) (s : Seen) (k : ℕ) → NoneOf 28 k → NotListed ≡ work_of c x k f s
 unfolding work_of
 not_listed c x f s zero r = refl
 not_listed c x f s (suc j) r = sym (ap (λ (l : List Entry). work_in l f s) (past (steps c x) (suc j) (beyond 28 (suc j) r (omega arith))))

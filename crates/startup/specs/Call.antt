@@ -4,9 +4,9 @@ use Rattle.std.specs.Prelude.{ℕ, suc, zero, ◌+◌, ◌*◌, ◌%◌, ◌≡�
 use Rattle.std.proofs.Common.{◌∙◌, sym}
 use Rattle.std.specs.Int.Count.{ones}
 use Rattle.answer.specs.Answer.{Answer, gives, refuses, refuse, ◌>>=◌, ◌>>◌, settled_by}
-use Rattle.v4x7_rules.specs.declared.ClockRecord.{ClockRecord}
+use Rattle.tree.specs.declared.Clocks.{Clocks}
 use Rattle.v4x7.specs.declared.Config.{Config}
-use Rattle.v4x7.specs.declared.Promise.{Promise}
+use Rattle.v4x7.specs.declared.ClockRecord.{ClockRecord}
 use Rattle.v4x7.specs.Check.{named_of, check_of, has_hse, has_usb_hs, has_main}
 use Rattle.image.specs.declared.Seen.{Seen}
 use Rattle.image.specs.declared.Fields.{Fields}
@@ -128,7 +128,7 @@ unfoldable pub call_of : ℕ → Startup → Reading → Bool → Work → Event
 call_of limit s r listed work = cond (not listed || ltb 8000001 s.used) back (event_of limit s r work)
 
 -- The check having promised these clocks.
-abbrev pub comes_to : ClockRecord → Startup → Reading → Event
+abbrev pub comes_to : Clocks → Startup → Reading → Event
 comes_to promised s r = call_of 1000000 s r (listed_of s.config s.step) (work_of s.config promised s.step s.fields (seen_of r))
 
 -- A used reading's ready bits and SWS go into the fields; its SCKMOD is only compared.
@@ -136,7 +136,7 @@ abbrev pub seeing : Startup → Reading → Fields
 seeing s r = with_seen s.fields (seen_of r)
 
 -- After the end a call changes nothing and repeats the last answer; not over, a configuration that is not accepted is answered 28.
-abbrev pub step_by : Answer Promise → Startup → Reading → Phase → Stepped
+abbrev pub step_by : Answer ClockRecord → Startup → Reading → Phase → Stepped
 step_by check s r (Over last) = record { startup = s; report = last }
 step_by (refuses n) s r Going = handed_back s
 step_by (gives x) s r Going = came_to (next_of s.config s.step) s (seeing s r) (comes_to x.clocks s r)

@@ -4,9 +4,9 @@ use Rattle.std.specs.Prelude.{ℕ, ◌+◌, ◌*◌, ◌≡◌, refl, Bool, true
 use Rattle.std.proofs.Common.{ap, ◌∙◌}
 use Rattle.answer.specs.Answer.{Answer, gives, refuses}
 use Rattle.answer.specs.Order.{Test, first_of, bare, InOrder, order_past, order_gives, order_bind, order_then}
-use Rattle.v4x7_rules.specs.declared.ClockRecord.{ClockRecord}
+use Rattle.tree.specs.declared.Clocks.{Clocks}
 use Rattle.v4x7.specs.declared.Config.{Config}
-use Rattle.v4x7.specs.declared.Promise.{Promise}
+use Rattle.v4x7.specs.declared.ClockRecord.{ClockRecord}
 use Rattle.v4x7.specs.Check.{named_of, check_of}
 use Rattle.image.specs.declared.Fields.{Fields}
 use Rattle.image.specs.Image.{in_width}
@@ -73,7 +73,7 @@ work_tests s r listed work =
     []
 
 -- A call of a startup that is not over, to whose configuration the check promised these clocks.
-abbrev pub step_tests : ClockRecord → Startup → Reading → List Test
+abbrev pub step_tests : Clocks → Startup → Reading → List Test
 step_tests promised s r =
     (28, not (named_of s.config)) ∷  -- a code without a name
     (28, not (in_width s.fields)) ∷  -- a code too wide
@@ -122,14 +122,14 @@ codes_first s x l true false h = refl
 codes_first s x l true true h = h
 
 -- a call of a startup that is not over, by the check's answer
-by_check : (s : Startup) (r : Reading) (a : Answer Promise) → s.phase ≡ Going → check_of s.config ≡ a →
+by_check : (s : Startup) (r : Reading) (a : Answer ClockRecord) → s.phase ≡ Going → check_of s.config ≡ a →
     step_of s r ≡ cond (not (named_of s.config) || not (in_width s.fields)) (handed_back s) (step_by a s r Going)
 unfolding step_of
 by_check s r a e q =
-    let by : Answer Promise → Phase → Stepped = λ b h. cond (not (named_of s.config) || not (in_width s.fields)) (handed_back s) (step_by b s r h) in
-    ap (by (check_of s.config)) e ∙ ap (λ (b : Answer Promise). by b Going) q
+    let by : Answer ClockRecord → Phase → Stepped = λ b h. cond (not (named_of s.config) || not (in_width s.fields)) (handed_back s) (step_by b s r h) in
+    ap (by (check_of s.config)) e ∙ ap (λ (b : Answer ClockRecord). by b Going) q
 
-pub step_in_order : (s : Startup) (r : Reading) {x : Promise} → s.phase ≡ Going → check_of s.config ≡ gives x →
+pub step_in_order : (s : Startup) (r : Reading) {x : ClockRecord} → s.phase ≡ Going → check_of s.config ≡ gives x →
     told_by (step_of s r).report ≡ first_of (step_tests x.clocks s r)
 unfolding call_of
 step_in_order s r {x} e q =

@@ -1,11 +1,8 @@
 -- The startup of document 01, "Startup steps", as data: its 28 steps, what each does, and which of them a configuration has.
 -- Assumes nothing.
-use Rattle.std.specs.Prelude.{ℕ, zero, suc, Bool, true, false, not, ◌&&◌, ◌||◌, List, [], ◌∷◌, eqb, drop}
+use Rattle.std.specs.Prelude.{ℕ, zero, suc, Bool, true, false, not, ◌&&◌, List, [], ◌∷◌, eqb, drop}
 use Rattle.answer.specs.Answer.{Answer, gives, refuses}
-use Rattle.fraction.specs.declared.Fraction.{Fraction}
 use Rattle.tree.specs.declared.Clocks.{Clocks}
-use Rattle.v4x7_rules.specs.declared.ClockRecord.{ClockRecord}
-use Rattle.v4x7.specs.declared.AdcClockSource.{AdcClockSource}
 use Rattle.v4x7.specs.declared.Config.{Config}
 use Rattle.image.specs.declared.Seen.{Seen}
 use Rattle.image.specs.declared.Fields.{Fields}
@@ -36,27 +33,16 @@ same_clocks a b =
     eqb a.sysclk b.sysclk && eqb a.hclk b.hclk && eqb a.pclk1 b.pclk1 && eqb a.pclk2 b.pclk2
     && eqb a.pclk1_tim b.pclk1_tim && eqb a.pclk2_tim b.pclk2_tim
 
-abbrev pub same_ratio : Fraction → Fraction → Bool
-same_ratio a b = eqb a.source b.source && eqb a.divisor b.divisor
+abbrev pub is_clocks : Answer Clocks → Clocks → Bool
+is_clocks (gives k) promised = same_clocks k promised
+is_clocks (refuses n) promised = false
 
--- the registers tell the ADC's ratio: the ADC runs from HCLK, or the last used reading has USBHS ready set (document 02, K6)
-abbrev pub tells_ratio : AdcClockSource → Seen → Bool
-tells_ratio from s = not (from_usb_hs from) || s.usbhs_pllrdy
-
--- the six clocks, and the ratio where it is told
-abbrev pub same_record : Bool → ClockRecord → ClockRecord → Bool
-same_record told a b = same_clocks a.six b.six && (not told || same_ratio a.ratio b.ratio)
-
-abbrev pub is_record : Bool → Answer ClockRecord → ClockRecord → Bool
-is_record told (gives k) promised = same_record told k promised
-is_record told (refuses n) promised = false
-
--- the fields, decoded with the same HSE, are the clocks that the check promised, and the ratio where it is told
-unfoldable pub agrees_of : Config → ClockRecord → Fields → Bool
-agrees_of c promised f = is_record (tells_ratio c.adc_src f.seen) (decode_of f (hse_frequency_of c.hse)) promised
+-- the fields, decoded with the same HSE, are the clocks that the check promised
+unfoldable pub agrees_of : Config → Clocks → Fields → Bool
+agrees_of c promised f = is_clocks (decode_of f (hse_frequency_of c.hse)) promised
 
 -- Document 01's list: what each of the 28 steps does.
-abbrev pub ops : Config → ClockRecord → List Op
+abbrev pub ops : Config → Clocks → List Op
 ops c promised =
     write hsi_on ∷  -- 1 HSION
     wait (λ s. s.hsirdy) ∷  -- 2 wait HSIRDY
@@ -77,8 +63,8 @@ ops c promised =
     write main_on ∷  -- 17 on
     wait (λ s. s.pllrdy) ∷  -- 18 wait
     write (λ f. f) ∷  -- 19 keys: the host writes them
-    write (flash_mode (mode_of promised.six.hclk)) ∷  -- 20 SCKMOD; LOCK, FLOCK
-    flash (mode_of promised.six.hclk) ∷  -- 21 one reading of SCKMOD (22)
+    write (flash_mode (mode_of promised.hclk)) ∷  -- 20 SCKMOD; LOCK, FLOCK
+    flash (mode_of promised.hclk) ∷  -- 21 one reading of SCKMOD (22)
     write (sys_pll c) ∷  -- 22 SYSPLL source, divisor, RNGSRC, I2SPLLSRC
     write (buses c) ∷  -- 23 HPRE, PPRE1, PPRE2, ADCPRE, ADCSRC, duty
     write (adc_divisor c.adc_src) ∷  -- 24 ADC_CLKDIV, if USBHS feeds the ADC
@@ -112,7 +98,7 @@ abbrev pub present : List Entry → List Bool
 present [] = []
 present (entry b o ∷ l) = b ∷ present l
 
-abbrev pub steps : Config → ClockRecord → List Entry
+abbrev pub steps : Config → Clocks → List Entry
 steps c promised = entries (parts c) (ops c promised)
 
 -- What is left of a list from step k on, counted from 1.
@@ -148,5 +134,5 @@ abbrev pub work_in : List Entry → Fields → Seen → Work
 work_in [] f s = NotListed
 work_in (entry b o ∷ l) f s = done_of o f s
 
-unfoldable pub work_of : Config → ClockRecord → ℕ → Fields → Seen → Work
+unfoldable pub work_of : Config → Clocks → ℕ → Fields → Seen → Work
 work_of c promised k f s = work_in (from k (steps c promised)) f s

@@ -11,8 +11,8 @@ ghost use Rattle.startup.specs.Call.{number_of, named_step, seen_of, going, hand
 use answer::Reply;
 use image::{Fields, Seen};
 use steps::{Work, listed, perform};
+use tree::Clocks;
 use v4x7::{Checked, Config, refused};
-use v4x7_rules::ClockRecord;
 
 // Of a wait's readings, the one that fails it.
 const READINGS: u32 = 1_000_000;
@@ -322,7 +322,7 @@ fn compare(s: Startup, same: bool) -> Stepped
 }
 
 // One step's work done or one reading used, the check having promised these clocks.
-fn work(s: Startup, promised: ClockRecord, reading: Reading) -> Stepped
+fn work(s: Startup, promised: Clocks, reading: Reading) -> Stepped
     requires { s.used ≤ 8000001 }
     ensures { result ≡ came_to (next_of s.config s.step) s (seeing s reading) (event_of 1000000 s reading (work_of s.config promised s.step s.fields (seen_of reading))) }
 {

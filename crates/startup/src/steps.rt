@@ -1,17 +1,16 @@
 // The 28 steps of the V4x7 startup: which of them a configuration has, and what each writes, waits for, reads back or compares. The startup has tested
 // the codes that these take.
 ghost use Rattle.std.specs.Prelude.{◌≡◌, true, false, ◌<◌};
+ghost use Rattle.tree.specs.declared.Clocks.{Clocks};
 ghost use Rattle.startup.specs.Writes.{hsi_on, switch, gate, all_off, bypass, hse_on, eth_on, reference, code_of, usb_hs_source, usb_hs_on, main_source, main_on, mode_of, flash_mode, sys_pll, buses, from_usb_hs, adc_divisor};
 ghost use Rattle.v4x7.specs.Check.{has_hse, has_usb_hs, has_main};
-ghost use Rattle.startup.specs.Steps.{all_clear, same_clocks, same_ratio, tells_ratio, same_record, agrees_of, listed_of, work_of};
+ghost use Rattle.startup.specs.Steps.{all_clear, same_clocks, agrees_of, listed_of, work_of};
 
 use answer::Reply;
-use decoder::Decoded;
-use fraction::Fraction;
 use image::{Fields, Seen};
-use tree::Clocks;
+use tree::{Buses, Clocks};
 use v4x7::{AdcClockSource, Config, HsPll, Hse, Pll};
-use v4x7_rules::{ClockRecord, HSI_FREQUENCY};
+use v4x7_rules::HSI_FREQUENCY;
 
 // What comes of a step.
 #[derive(Drop)]
@@ -295,44 +294,19 @@ fn same_clocks(a: Clocks, b: Clocks) -> bool
         & (a.pclk2_tim == b.pclk2_tim)
 }
 
-fn same_ratio(a: Fraction, b: Fraction) -> bool
-    ensures { result ≡ same_ratio a b }
-{
-    (a.source == b.source) & (a.divisor == b.divisor)
-}
-
-// Whether the registers tell the ADC's ratio: where it runs from HCLK, or the last used reading has USBHS ready set.
-fn tells_ratio(adc: AdcClockSource, seen: Seen) -> bool
-    ensures { result ≡ tells_ratio adc seen }
-{
-    let usbhs = from_usbhs(adc);
-    !usbhs | seen.usbhs_pllrdy
-}
-
-// Whether two records have the same six clocks and, where it is told, the same ratio.
-fn same_record(told: bool, a: ClockRecord, b: ClockRecord) -> bool
-    ensures { result ≡ same_record told a b }
-{
-    let six = same_clocks(a.six, b.six);
-    let ratio = same_ratio(a.ratio, b.ratio);
-    six & (!told | ratio)
-}
-
-// Whether the fields, decoded with the same HSE, give the clocks that the check promised, and the ratio where they tell it.
-fn agrees(config: Config, promised: ClockRecord, fields: Fields) -> bool
+// Whether the fields, decoded with the same HSE, give the clocks that the check promised.
+fn agrees(config: Config, promised: Clocks, fields: Fields) -> bool
     ensures { result ≡ agrees_of config promised fields }
 {
     let hse = config.hse;
-    let adc = config.adc_src;
-    let seen = fields.seen;
     match decoder::decode(fields, v4x7::hse_frequency(hse)) {
-        Decoded::Refused(_) => false,
-        Decoded::Run(found) => same_record(tells_ratio(adc, seen), found, promised),
+        Buses::Refused(_) => false,
+        Buses::Run(clocks) => same_clocks(clocks, promised),
     }
 }
 
 // What comes of a step with these fields and this reading, the check having promised these clocks.
-pub fn perform(config: Config, promised: ClockRecord, step: u8, fields: Fields, seen: Seen) -> Work
+pub fn perform(config: Config, promised: Clocks, step: u8, fields: Fields, seen: Seen) -> Work
     ensures { result ≡ work_of config promised step fields seen }
 {
     let hse = config.hse;
@@ -360,8 +334,8 @@ pub fn perform(config: Config, promised: ClockRecord, step: u8, fields: Fields, 
         18 => Work::Waits(seen.pllrdy),
         // The host writes the keys.
         19 => Work::Wrote(fields),
-        20 => Work::Wrote(flash_mode(fields, sckmod(promised.six.hclk))),
-        21 => Work::Reads(sckmod(promised.six.hclk)),
+        20 => Work::Wrote(flash_mode(fields, sckmod(promised.hclk))),
+        21 => Work::Reads(sckmod(promised.hclk)),
         22 => Work::Wrote(syspll(fields, config)),
         23 => Work::Wrote(prescalers(fields, config)),
         24 => Work::Wrote(adc_divisor(fields, adc)),

@@ -3,7 +3,7 @@
 use Rattle.std.specs.Prelude.{◌≡◌, ℕ, zero, suc, ◌+◌, ◌%◌, ◌^◌, ◌<◌, ◌≤◌, Bool, true, false, cond, List, [], ◌∷◌, ◌==◌, ◌≢◌, nat_le, slice_index, refl}
 use Rattle.std.proofs.Common.{sym, ap, ◌∙◌, arith, eqb-true, ne_eqb, leb-true, leb-false}
 use Rattle.answer.specs.Tools.{true_false, false_true, cases}
-use Rattle.v4x7_rules.specs.declared.ClockRecord.{ClockRecord}
+use Rattle.tree.specs.declared.Clocks.{Clocks}
 use Rattle.v4x7.specs.declared.Config.{Config}
 use Rattle.startup.specs.Steps.{Op, write, wait, flash, compare, ops}
 use Rattle.startup.specs.declared.Report.{Report}
@@ -64,7 +64,7 @@ abbrev flags : (ℕ → Bool) → ℕ → ℕ → List Bool
 flags f k zero = []
 flags f k (suc n) = f k ∷ flags f (suc k) n
 
-pub the_eight : (c : Config) (promised : ClockRecord) → waits (ops c promised) ≡ flags has_wait 1 28
+pub the_eight : (c : Config) (promised : Clocks) → waits (ops c promised) ≡ flags has_wait 1 28
 the_eight c promised = refl
 
 -- Each is noted in its own place, and the others are as they were.

@@ -15,9 +15,7 @@ use Rattle.divider.specs.declared.Family.TheVariants.{V4x7}
 use Rattle.divider.specs.declared.Frequency.{Frequency}
 use Rattle.divider.specs.Divide.{apb_divisor}
 use Rattle.divider.specs.Frequency.{whole, over}
-use Rattle.fraction.specs.Fraction.{lowest_of}
 use Rattle.tree.specs.Order.{no_hse, hse_hz, clocks_at}
-use Rattle.tree.specs.declared.Clocks.{Clocks}
 use Rattle.tree.specs.declared.Output.{Output}
 use Rattle.tree.specs.declared.Output.TheVariants as output
 use Rattle.v4x7_rules.specs.Rules.{hse_in_range, used_hse_of, reference_code_of, two_thirds, sys_pll_of, buses_of}
@@ -32,8 +30,8 @@ use Rattle.v4x7.specs.declared.HsPll.TheVariants as hspll
 use Rattle.v4x7.specs.declared.AdcClockSource.{AdcClockSource}
 use Rattle.v4x7.specs.declared.AdcClockSource.TheVariants as adc
 use Rattle.v4x7.specs.declared.Config.{Config}
-use Rattle.v4x7.specs.declared.Promise.{Promise}
-use Rattle.v4x7.specs.Check.{named_pll, named_source, named_of, has_hse, has_main, has_usb_hs, hse_frequency_of, rng_of, hse_present_of, main_of, eth_of, reference_of, usb_hs_of, sources_of, sys_pll_input_of, sysclk_of, system_of, adc_ratio_of, limits_of, adc_of, promise_of, check_of}
+use Rattle.v4x7.specs.declared.ClockRecord.{ClockRecord}
+use Rattle.v4x7.specs.Check.{named_pll, named_source, named_of, has_hse, has_main, has_usb_hs, hse_frequency_of, rng_of, hse_present_of, main_of, eth_of, reference_of, usb_hs_of, sources_of, sys_pll_input_of, sysclk_of, system_of, adc_ratio_of, limits_of, adc_of, record_of, check_of}
 use Rattle.v4x7.specs.Laws.{Named, named_given}
 use Rattle.v4x7.specs.Order.{multiplier, main_pll, usb_hs_from, sysclk, adc_from_usb_hs, adc_source, adc_first, adc_total, check_tests}
 
@@ -161,19 +159,11 @@ unfolding limits_of
 limits x {source} {total} e =
     rw e (else_past 15 (ltb (30000000 * total) source) (λ e. else_past 16 (eqb (source / total) 0) (λ e. else_gives)))
 
--- what the check promises, of plain numbers below the six clocks
-abbrev sampled : Clocks → Config → Promise
-sampled six c =
-    record {
-      clocks = record { six = six; ratio = lowest_of (adc_source c) (adc_total c) };
-      adc = adc_source c / adc_total c;
-    }
-
-adc_else : (c : Config) (six : Clocks) → Named c → OrElse (take 4 (drop 16 (check_tests c))) (sampled six c) (adc_of six (sysclk c) c)
+adc_else : (c : Config) → Named c → OrElse (take 4 (drop 16 (check_tests c))) (adc_source c / adc_total c) (adc_of (sysclk c) c)
 unfolding adc_of
-adc_else c six n =
+adc_else c n =
     else_bind (ratio (sysclk c) c.ahb_pre c.apb2_pre c.adc_pre c.hspll c.adc_src n.ahb_pre n.apb2_pre n.adc_pre)
-    (λ x e. rw e (else_bind (limits (adc_source c, adc_total c) refl) (λ hz k. rw k else_gives)))
+    (λ x e. limits x e)
 
 buses : (c : Config) → Named c →
     OrElse (take 1 (drop 15 (check_tests c))) (clocks_at V4x7 (whole (sysclk c)) c.ahb_pre c.apb1_pre c.apb2_pre)
@@ -183,15 +173,21 @@ buses c n =
     (lt-leb 16 c.ahb_pre (omega (arith, n.ahb_pre)))) (lt-leb 8 c.apb1_pre (omega (arith, n.apb1_pre))))
     (lt-leb 8 c.apb2_pre (omega (arith, n.apb2_pre)))
 
--- the whole promise, of plain numbers
-abbrev promised : Config → Promise
-promised c = sampled (clocks_at V4x7 (whole (sysclk c)) c.ahb_pre c.apb1_pre c.apb2_pre) c
+-- the clock record, of plain numbers
+abbrev recorded : Config → ClockRecord
+recorded c =
+    record {
+      clocks = clocks_at V4x7 (whole (sysclk c)) c.ahb_pre c.apb1_pre c.apb2_pre;
+      adc = adc_source c / adc_total c;
+    }
 
-below : (c : Config) (sys : Frequency) → sys ≡ whole (sysclk c) → Named c → OrElse (take 5 (drop 15 (check_tests c))) (promised c) (promise_of sys c)
-below c sys e n = rw e (else_bind (buses c n) (λ six is. rw is (adc_else c _ n)))
+below : (c : Config) (sys : Frequency) → sys ≡ whole (sysclk c) → Named c →
+    OrElse (take 5 (drop 15 (check_tests c))) (recorded c) (record_of sys c)
+below c sys e n =
+    rw e (else_bind (buses c n) (λ k clocks. rw clocks (else_bind (adc_else c n) (λ a adc. rw adc else_gives))))
 
 -- the whole check: refused by the first of the list, or else the plain numbers
-pub check_else : (c : Config) → OrElse (check_tests c) (promised c) (check_of c)
+pub check_else : (c : Config) → OrElse (check_tests c) (recorded c) (check_of c)
 unfolding check_of
 check_else c =
     else_past 28 (not (named_of c)) (λ e.

@@ -5,8 +5,6 @@ use Rattle.answer.specs.Answer.{Answer, gives, refuses, refuse, ◌>>=◌, ◌>>
 use Rattle.answer.specs.Tests.{every}
 use Rattle.divider.specs.declared.Frequency.{Frequency}
 use Rattle.divider.specs.Frequency.{whole, over}
-use Rattle.fraction.specs.Fraction.{lowest_of}
-use Rattle.tree.specs.declared.Clocks.{Clocks}
 use Rattle.tree.specs.declared.HseFrequency.{HseFrequency}
 use Rattle.tree.specs.declared.HseFrequency.TheVariants as frequency
 use Rattle.tree.specs.declared.Output.{Output}
@@ -21,7 +19,7 @@ use Rattle.v4x7.specs.declared.HsPll.TheVariants as hspll
 use Rattle.v4x7.specs.declared.AdcClockSource.{AdcClockSource}
 use Rattle.v4x7.specs.declared.AdcClockSource.TheVariants as adc
 use Rattle.v4x7.specs.declared.Config.{Config}
-use Rattle.v4x7.specs.declared.Promise.{Promise}
+use Rattle.v4x7.specs.declared.ClockRecord.{ClockRecord}
 use Rattle.v4x7.specs.declared.Checked.{Checked}
 use Rattle.v4x7.specs.declared.Checked.TheVariants as checked
 
@@ -156,29 +154,28 @@ limits_of source total = do
   refuse 16 (eqb (source / total) 0)
   gives (source / total)
 
--- ADC 13, 14, 15, 16. The answer: the six clocks with source and divisor in lowest terms (document 02, K6) and, apart, the ADC frequency
-unfoldable pub adc_of : Clocks → ℕ → Config → Answer Promise
-adc_of six sys c = do
+unfoldable pub adc_of : ℕ → Config → Answer ℕ
+adc_of sys c = do
   x ← adc_ratio_of sys c.ahb_pre c.apb2_pre c.adc_pre c.hspll c.adc_src
-  hz ← limits_of x.0 x.1
-  gives (record { clocks = record { six = six; ratio = lowest_of x.0 x.1 }; adc = hz })
+  limits_of x.0 x.1
 
--- HCLK (12), then the ADC
-abbrev pub promise_of : Frequency → Config → Answer Promise
-promise_of sys c = do
-  six ← buses_of sys c.ahb_pre c.apb1_pre c.apb2_pre
-  adc_of six sys.hz c
+-- HCLK (12). ADC 13, 14, 15, 16. The answer: the six clocks and, apart, the ADC frequency
+abbrev pub record_of : Frequency → Config → Answer ClockRecord
+record_of sys c = do
+  clocks ← buses_of sys c.ahb_pre c.apb1_pre c.apb2_pre
+  adc ← adc_of sys.hz c
+  gives (record { clocks = clocks; adc = adc })
 
 -- The check: 28 before anything else, then in order
-unfoldable pub check_of : Config → Answer Promise
+unfoldable pub check_of : Config → Answer ClockRecord
 check_of c = do
   refuse 28 (not (named_of c))
   sys ← system_of c
-  promise_of sys c
+  record_of sys c
 
 -- What a `Checked` says; two that say the same are equal.
 
-abbrev pub checked_says : Checked → Answer Promise
+abbrev pub checked_says : Checked → Answer ClockRecord
 checked_says (checked.Accepted x) = gives x
 checked_says (checked.Refused n) = refuses n
 
@@ -187,7 +184,7 @@ abbrev pub refused_of : Checked → ℕ
 refused_of (checked.Accepted x) = 0
 refused_of (checked.Refused n) = n
 
-checked_of : Answer Promise → Checked
+checked_of : Answer ClockRecord → Checked
 checked_of (gives x) = checked.Accepted x
 checked_of (refuses n) = checked.Refused n
 

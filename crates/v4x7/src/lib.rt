@@ -7,10 +7,10 @@ ghost use Rattle.tree.specs.Tree.{made_says};
 ghost use Rattle.v4x7_rules.specs.Rules.{ratio_says};
 ghost use Rattle.v4x7.specs.Check.{checked_says, refused_of, named_pll, named_hs_pll, named_ahb, named_apb, named_dividers, named_source, named_of, has_usb_hs, hse_frequency_of, rng_of, hse_present_of, main_of, eth_of, reference_of, usb_hs_of, sources_of, sys_pll_input_of, sysclk_of, system_of, adc_ratio_of, limits_of, adc_of, check_of};
 
-use answer::{Outcome, Reply};
+use answer::{Outcome, Reply, refusal};
 use divider::Rate;
 use tree::{Buses, Clocks, HseFrequency, Made, Output};
-use v4x7_rules::{ClockRecord, HSI_FREQUENCY, Ratio};
+use v4x7_rules::{HSI_FREQUENCY, Ratio};
 
 // The crystal or the clock fed in from outside (`bypass`), with its frequency in Hz.
 #[derive(Drop)]
@@ -60,17 +60,17 @@ pub struct Config {
     pub adc_duty: u8,
 }
 
-// What the check promises of an accepted configuration: its clock record and, apart, the ADC's frequency in Hz.
+// The clock record of an accepted configuration: the six clocks and, apart, the ADC's frequency in Hz.
 #[derive(Drop)]
-pub struct Promise {
-    pub clocks: ClockRecord,
+pub struct ClockRecord {
+    pub clocks: Clocks,
     pub adc: u32,
 }
 
-// The answer of the check: what it promises, or the first refusal in document 01's order.
+// The answer of the check: the clock record, or the first refusal in document 01's order.
 #[derive(Drop)]
 pub enum Checked {
-    Accepted(Promise),
+    Accepted(ClockRecord),
     Refused(u8),
 }
 
@@ -340,29 +340,19 @@ fn adc_limits(source: u32, divisor: u32) -> Reply
     Reply::Is(hz)
 }
 
-// The ADC's part: its ratio beside the six clocks and, apart, its frequency.
-fn adc(six: Clocks, sysclk: u32, c: Config) -> Checked
-    ensures { checked_says result ≡ adc_of six sysclk c }
+fn adc(sysclk: u32, c: Config) -> Reply
+    ensures { reply_says result ≡ adc_of sysclk c }
 {
     let hspll = c.hspll;
     let from = c.adc_src;
     match adc_ratio(sysclk, c.ahb_pre, c.apb2_pre, c.adc_pre, hspll, from) {
-        Ratio::Refused(n) => Checked::Refused(n),
-        Ratio::Of { source, divisor } => match adc_limits(source, divisor) {
-            Reply::Refused(n) => Checked::Refused(n),
-            Reply::Is(hz) => {
-                let ratio = fraction::lowest(source, divisor);
-                Checked::Accepted(Promise {
-                    clocks: ClockRecord { six, ratio },
-                    adc: hz,
-                })
-            }
-        },
+        Ratio::Refused(n) => Reply::Refused(n),
+        Ratio::Of { source, divisor } => adc_limits(source, divisor),
     }
 }
 
 impl Config {
-    // The check: what it promises, or the first refusal in document 01's order.
+    // The check: the configuration's clock record, or the first refusal in document 01's order.
     pub fn clocks(self) -> Checked
         ensures { checked_says result ≡ check_of self }
     {
@@ -375,7 +365,13 @@ impl Config {
         };
         match v4x7_rules::bus_clocks(sys, self.ahb_pre, self.apb1_pre, self.apb2_pre) {
             Buses::Refused(n) => Checked::Refused(n),
-            Buses::Run(six) => adc(six, sys.hz, self),
+            Buses::Run(clocks) => {
+                let sampled = adc(sys.hz, self);
+                let Reply::Is(hz) = sampled else {
+                    return Checked::Refused(refusal(sampled));
+                };
+                Checked::Accepted(ClockRecord { clocks, adc: hz })
+            }
         }
     }
 }

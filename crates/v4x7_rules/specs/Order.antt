@@ -1,15 +1,14 @@
 -- The order of the rules' refusals: a flat list for each rule, and that the rule refuses by the first of its list, or else gives its plain number.
 -- Assumes nothing.
 use Rattle.std.specs.Prelude.{◌≡◌, refl, Bool, true, false, cond, not, ◌&&◌, ◌||◌, List, [], ◌∷◌, ℕ, zero, suc, ◌+◌, ◌*◌, ◌/◌, ltb, leb, eqb}
-use Rattle.std.proofs.Common.{sym, ap, arith, le-leb}
+use Rattle.std.proofs.Common.{ap, arith, le-leb}
 use Rattle.answer.specs.Answer.{Answer, gives, refuses}
-use Rattle.answer.specs.Order.{Test, first_of, bare, OrElse, else_gives, else_known, else_not, else_past, else_refuse, else_bind, else_given, else_order}
+use Rattle.answer.specs.Order.{Test, first_of, bare, OrElse, else_gives, else_known, else_not, else_past, else_refuse, else_bind, else_order}
 use Rattle.divider.specs.declared.Family.TheVariants.{V4x7}
 use Rattle.divider.specs.declared.Frequency.{Frequency}
 use Rattle.divider.specs.Divide.{ahb_divisor, apb_divisor}
 use Rattle.divider.specs.Frequency.{whole, over}
 use Rattle.divider.specs.Laws.{ahb_else, apb_else}
-use Rattle.tree.specs.declared.Clocks.{Clocks}
 use Rattle.tree.specs.declared.HseFrequency.{HseFrequency}
 use Rattle.tree.specs.declared.HseFrequency.TheVariants as hse
 use Rattle.tree.specs.declared.Output.{Output}
@@ -116,10 +115,6 @@ pub buses_else : (sys : Frequency) (ahb apb1 apb2 : ℕ) →
 unfolding buses_of over
 buses_else sys ahb apb1 apb2 =
     else_bind (clocks_else V4x7 sys ahb apb1 apb2) (λ k e. rw e (else_past 12 (ltb 200000000 (sys.hz / ahb_divisor V4x7 ahb)) (λ e. else_gives)))
-
--- SYSCLK is printed as it is
-pub buses_sysclk : (sys : Frequency) (ahb apb1 apb2 : ℕ) {k : Clocks} → buses_of sys ahb apb1 apb2 ≡ gives k → k.sysclk ≡ sys.hz
-buses_sysclk sys ahb apb1 apb2 q = sym (ap (λ (k : Clocks). k.sysclk) (else_given (buses_else sys ahb apb1 apb2) q))
 
 pub buses_in_order : (sys : Frequency) (ahb apb1 apb2 : ℕ) → bare (buses_of sys ahb apb1 apb2) ≡ first_of (buses_tests sys ahb apb1 apb2)
 buses_in_order sys ahb apb1 apb2 = (else_order (buses_else sys ahb apb1 apb2)).goes

@@ -9,8 +9,7 @@ ghost use Rattle.v4x7_rules.specs.Rules.{hse_in_range, used_hse_of, main_pll_inp
 
 use answer::{Outcome, Reply};
 use divider::{Family, Frequency, Rate};
-use fraction::Fraction;
-use tree::{Buses, Clocks, HseFrequency, Output};
+use tree::{Buses, HseFrequency, Output};
 
 pub const HSI_FREQUENCY: u32 = 20_000_000;
 
@@ -28,13 +27,6 @@ const PLL_MUL_X2: [u8; 32] = [
 pub enum Ratio {
     Of { source: u32, divisor: u32 },
     Refused(u8),
-}
-
-// The clock record, of the check and of the decoder: the six clocks, and what the ADC divides in lowest terms.
-#[derive(Drop)]
-pub struct ClockRecord {
-    pub six: Clocks,
-    pub ratio: Fraction,
 }
 
 // Whether HSE's frequency is one that the chip takes.

@@ -105,8 +105,6 @@ fn answers() -> Result<(), Refusal> {
     for (name, hz) in ["sysclk", "hclk", "pclk1", "pclk2", "pclk1_tim", "pclk2_tim", "adc"].iter().zip(numbers) {
         println!("{name} {hz}");
     }
-    // The ADC's frequency, not rounded: who divides it on goes by these two.
-    println!("adc exactly {}/{}", promised.adc_ratio.source, promised.adc_ratio.divisor);
     // A serial port of the first bus, at 115,200.
     let port = wontabeli::serial_divisor(k.pclk1, 115_200)?;
     println!("brr {} error {}", port.brr, port.error);

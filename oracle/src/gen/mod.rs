@@ -10,7 +10,6 @@ pub mod good;
 mod h4;
 pub mod inputs;
 pub mod random;
-mod ratio;
 mod rules;
 pub mod serial;
 pub mod startup;
@@ -92,17 +91,6 @@ const TICKED: [Set; 9] = [
     (ticks::LONG, 0, ticks::long),
 ];
 
-/// Clock records with the ADC's ratio: the recorded list draws them behind those.
-const RATIOS: [Set; 7] = [
-    (ratio::EACH, ratio::EACH, ratio::each),
-    (ratio::FROM_HCLK, 200, ratio::from_hclk),
-    (ratio::FROM_USBHS, 150, ratio::from_usbhs),
-    (ratio::DECODED, 200, ratio::decoded),
-    (ratio::DIVISORS, 150, ratio::divisors),
-    (ratio::REFUSALS, ratio::REFUSALS, ratio::refusals),
-    (ratio::COMPARED, ratio::COMPARED, ratio::compared),
-];
-
 /// A query of document 01's calls.
 pub fn random_query(r: &mut Random) -> Query {
     match r.below(32) {
@@ -146,7 +134,7 @@ impl Iterator for Queries {
             return None;
         }
         self.left -= 1;
-        let mut sets = SETS.iter().chain(&TICKED).chain(&RATIOS).skip(self.set).peekable();
+        let mut sets = SETS.iter().chain(&TICKED).skip(self.set).peekable();
         while sets.next_if(|set| set.0 == self.at).is_some() {
             self.set += 1;
             self.at = 0;
@@ -181,10 +169,6 @@ pub fn recorded_ticks(r: &mut Random) -> Vec<Query> {
     queries.push(ticks::long(0));
     queries.extend((0..60).map(|_| ticks::random(r)));
     queries
-}
-
-pub fn recorded_ratios(r: &mut Random) -> Vec<Query> {
-    drawn(r, &RATIOS)
 }
 
 /// As many of each set as the recorded list takes: all, or some of them by chance.

@@ -191,7 +191,7 @@ pub fn random(r: &mut Random) -> Query {
 }
 
 /// A startup whose calls had readings that meet, at this step, or at the next where it is skipped.
-pub fn at_step(r: &mut Random, config: &[u8; CONFIG], step: u8) -> State {
+fn at_step(r: &mut Random, config: &[u8; CONFIG], step: u8) -> State {
     let mut state = State {
         config: *config,
         fields: fields::any(r),
@@ -207,7 +207,7 @@ pub fn at_step(r: &mut Random, config: &[u8; CONFIG], step: u8) -> State {
     state
 }
 
-pub fn call_of(state: &State, reading: [u8; 2]) -> Query {
+fn call_of(state: &State, reading: [u8; 2]) -> Query {
     let numbers = [state.unmet.to_be_bytes(), state.used.to_be_bytes()].concat();
     let last = state.last.map_or(vec![0; 7], |last| {
         [&[1, last.number, last.step], &last.used.to_be_bytes()[..]].concat()
@@ -244,7 +244,12 @@ pub fn compared(i: usize) -> Query {
         2 => f[17] = beside(&APB, f[17]),
         3 => f[18] = beside(&APB, f[18]),
         4 => other_sysclk(f),
-        5 => other_hclk(f),
+        // HCLK, and its timers where a bus divided by 2.
+        5 => {
+            f[16] = beside(&AHB, f[16]);
+            f[17] = below(&APB, f[17]);
+            f[18] = below(&APB, f[18]);
+        }
         // A system clock that can't be decoded.
         _ => f[12] = 3,
     }
@@ -265,13 +270,6 @@ fn beside(codes: &[u8], code: u8) -> u8 {
 fn below(codes: &[u8], code: u8) -> u8 {
     let at = codes.iter().position(|one| *one == code).unwrap_or(0);
     codes[at.saturating_sub(1)]
-}
-
-/// HCLK otherwise, and its timers where a bus divided by 2.
-pub fn other_hclk(f: &mut [u8; FIELDS]) {
-    f[16] = beside(&AHB, f[16]);
-    f[17] = below(&APB, f[17]);
-    f[18] = below(&APB, f[18]);
 }
 
 /// SYSCLK twice or half of what it was and, where the codes allow it, HCLK the same.

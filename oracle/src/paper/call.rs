@@ -1,10 +1,10 @@
-//! One call of a startup as it stands, and what a host asks before it starts one (document 01, "Startup steps"; step 28's comparison with document 02, K6).
-//! The Rust's `init` can't be entered half way.
+//! One call of a startup as it stands, and what a host asks before it starts one (document 01, "Startup steps"). The Rust's `init` can't be entered
+//! half way.
 
 use super::codes;
 use super::layout::image_of;
 use crate::record::*;
-use crate::rust::{checked, decoded, promised};
+use crate::rust::{checked, decoded};
 
 pub const WAITS: [u8; 8] = [2, 4, 7, 10, 12, 15, 18, 27];
 const KEYS: [u8; 16] = [
@@ -70,7 +70,7 @@ pub fn answer(q: &Query) -> Answer {
 /// The answer of a call that names this step and counts so many readings. 23 names no step.
 fn told(state: &State, (number, over): Said, step: u8, used: u32) -> Answer {
     let clocks = match over {
-        1 => decoded(&state.fields, hse_of(&state.config)).map_or([0; 6], |clocks| clocks.six),
+        1 => decoded(&state.fields, hse_of(&state.config)).unwrap_or([0; 6]),
         _ => [0; 6],
     };
     let named = if number == 23 { 0 } else { step };
@@ -174,24 +174,13 @@ pub fn work(state: &mut State, reading: &[u8]) -> Said {
             return (22, 2);
         }
     } else if step == 28 {
-        return if agrees(state) { (0, 1) } else { (23, 2) };
+        let now = decoded(&state.fields, hse_of(&state.config));
+        return if now == checked(&state.config) { (0, 1) } else { (23, 2) };
     } else {
         write(state);
     }
     next(state);
     (0, 0)
-}
-
-/// "The comparison after the switch covers the six clocks as before, and the ratio only where the ADC runs from HCLK or the last used reading has USBHS
-/// ready set." A step 28 that can't decode the fields doesn't agree.
-fn agrees(state: &State) -> bool {
-    let now = decoded(&state.fields, hse_of(&state.config));
-    let (now, promised) = match (now, promised(&state.config)) {
-        (Ok(now), Ok(promised)) => (now, promised),
-        _ => return false,
-    };
-    let covered = state.config[19] == 0 || state.fields[10] == 1;
-    now.six == promised.six && (!covered || now.ratio == promised.ratio)
 }
 
 fn next(state: &mut State) {

@@ -7,7 +7,6 @@ pub mod codes;
 pub mod layout;
 pub mod manual;
 pub mod profile;
-pub mod ratio;
 mod rules;
 pub mod serial;
 pub mod text;

@@ -1,5 +1,5 @@
 //! Ticks of a startup's waits (document 02, K5), over the calls that the Rust's own startup made. All else is what that startup answers: "ticks change no
-//! other answer"; where it runs, with the ADC's ratio (K6).
+//! other answer".
 
 use super::call::WAITS;
 use super::codes;
@@ -17,7 +17,7 @@ pub fn answer(q: &Query) -> Answer {
     if !codes::allowed(&plain) {
         return refused(TICKED, 28);
     }
-    let (said, steps, ratio) = startup::worked(&plain);
+    let (said, steps) = startup::worked(&plain);
     let calls = handed(&steps, number(&q[61..]), number(&q[65..]));
     // The wait that the last call left unmet, going on or failed.
     let unmet = number(&[0, said[61], said[62], said[63]]);
@@ -25,7 +25,7 @@ pub fn answer(q: &Query) -> Answer {
     let waits = WAITS.map(|wait| ticks(&calls, wait, open));
     let shown: Vec<u8> = waits.iter().flat_map(|one| one.unwrap_or(0).to_be_bytes()).collect();
     let longest = waits.iter().flatten().max().copied().unwrap_or(0);
-    let mut a = accepted(TICKED, &[&said[2..8], &shown, &longest.to_be_bytes(), &said[12..20], &ratio_bytes(ratio)]);
+    let mut a = accepted(TICKED, &[&said[2..8], &shown, &longest.to_be_bytes(), &said[12..20]]);
     a[1] = said[1];
     a
 }

@@ -31,35 +31,26 @@ fn refusal(kind: u8, thrown: Option<u8>) -> Answer {
     refused(kind, thrown.expect("stopped without a script"))
 }
 
-/// The V4x7 clock record: the six clocks, and the ADC's ratio.
-pub struct Clocks {
-    pub six: [u32; 6],
-    pub ratio: Ratio,
-}
-
-/// The check of a V4x7 configuration: the record that it promises, or the refusal.
-pub fn promised(config: &[u8; CONFIG]) -> Result<Clocks, u8> {
+/// The check of a V4x7 configuration: its six clocks, or the refusal.
+pub fn checked(config: &[u8; CONFIG]) -> Result<[u32; 6], u8> {
     let a = v4x7::check(&query(CHECK, &[config]));
     clocks_of(&a)
 }
 
-/// Its six clocks.
-pub fn checked(config: &[u8; CONFIG]) -> Result<[u32; 6], u8> {
-    promised(config).map(|clocks| clocks.six)
-}
-
 /// V4x7 fields decoded.
-pub fn decoded(fields: &[u8; FIELDS], hse: Option<u32>) -> Result<Clocks, u8> {
+pub fn decoded(fields: &[u8; FIELDS], hse: Option<u32>) -> Result<[u32; 6], u8> {
     let present = [u8::from(hse.is_some())];
     let a = v4x7::decode(&query(DECODE, &[fields, &present, &hse.unwrap_or(0).to_be_bytes()]));
     clocks_of(&a)
 }
 
-fn clocks_of(a: &Answer) -> Result<Clocks, u8> {
-    let ratio = ratio_in(a).ok_or(a[1])?;
-    let mut six = [0; 6];
-    for (i, clock) in six.iter_mut().enumerate() {
+fn clocks_of(a: &Answer) -> Result<[u32; 6], u8> {
+    if a[1] != 0 {
+        return Err(a[1]);
+    }
+    let mut clocks = [0; 6];
+    for (i, clock) in clocks.iter_mut().enumerate() {
         *clock = number(&a[2 + 4 * i..]);
     }
-    Ok(Clocks { six, ratio })
+    Ok(clocks)
 }

@@ -1,6 +1,6 @@
 //! CH32V4x7: whole startups, `init` over scripted readings.
 
-use super::v4x7::{config, fields, ratio_over};
+use super::v4x7::{config, fields};
 use crate::panics::caught;
 use crate::paper::codes::in_width;
 use crate::paper::layout::image_of;
@@ -56,13 +56,10 @@ pub fn run(q: &Query, held: bool) -> Answer {
     }
 }
 
-/// What `init` answers over a record that is held; the step that each call worked, none where it was not started; and where it runs the ADC's ratio,
-/// asked of the registers as `init` left them.
-pub fn worked(q: &Query) -> (Answer, Vec<u8>, Ratio) {
+/// What `init` answers over a record that is held, and the step that each call worked; none where it was not started.
+pub fn worked(q: &Query) -> (Answer, Vec<u8>) {
     let a = run(q, true);
-    let (steps, left) = chip(|chip| (std::mem::take(&mut chip.steps), chip.fields));
-    let ratio = if a[3] == 1 { ratio_over(&left) } else { (0, 0) };
-    (a, steps, ratio)
+    (a, chip(|chip| std::mem::take(&mut chip.steps)))
 }
 
 /// Whether `init`, at step 28, sees another SWS than the last used reading's.

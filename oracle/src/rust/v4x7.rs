@@ -2,7 +2,6 @@
 
 use super::refusal;
 use crate::panics::caught;
-use crate::paper::ratio;
 use crate::record::*;
 use hal_v4x7::pac::chip;
 use hal_v4x7::script::Chip;
@@ -108,15 +107,12 @@ pub fn check(q: &Query) -> Answer {
         Ok(clocks) => clocks.numbers(),
         Err(thrown) => return refusal(CHECK, thrown),
     };
-    chip(|chip| *chip = Chip::still(written(&q[1..])));
-    let adc = adc(clocks[0]).expect("USBHS is ready");
-    let ratio = ratio::lowest(adc_ratio().expect("USBHS is ready"));
-    accepted(CHECK, &[&clock_bytes(clocks), &adc.to_be_bytes(), &ratio_bytes(ratio)])
+    let adc = adc_of(&q[1..], clocks[0]);
+    accepted(CHECK, &[&clock_bytes(clocks), &adc.to_be_bytes()])
 }
 
-/// The fields that `init` would write for the ADC: `Config::clocks` checks the ADC's frequency and gives neither it nor what is divided. `adc_frequency`
-/// and `adc_clock_ratio` do, over these.
-fn written(c: &[u8]) -> [u8; FIELDS] {
+/// `Config::clocks` checks the ADC's frequency and does not give it. `adc_frequency` does, over the fields that `init` would write.
+fn adc_of(c: &[u8], sysclk: u32) -> u32 {
     let mut fields = [0; FIELDS];
     fields[10] = 1; // USBHS_PLLRDY
     fields[16] = c[15]; // HPRE
@@ -124,20 +120,14 @@ fn written(c: &[u8]) -> [u8; FIELDS] {
     fields[19] = c[21]; // ADCPRE
     fields[20] = c[19]; // ADCSRC
     fields[29] = c[20].saturating_sub(1); // ADC_CLKDIV
-    fields
-}
-
-/// The ADC's ratio, with the clocks that the Rust stored last.
-pub fn ratio_over(fields: &[u8; FIELDS]) -> Ratio {
-    chip(|chip| *chip = Chip::still(*fields));
-    ratio::decoded(fields, adc_ratio())
+    chip(|chip| *chip = Chip::still(fields));
+    adc(sysclk).expect("USBHS is ready")
 }
 
 pub fn decode(q: &Query) -> Answer {
-    let fields = fields(&q[1..]);
-    chip(|chip| *chip = Chip::still(fields));
+    chip(|chip| *chip = Chip::still(fields(&q[1..])));
     match caught(SOURCE, || hal_v4x7::decode(hse(&q[1 + FIELDS..]))) {
-        Ok(clocks) => accepted(DECODE, &[&clock_bytes(clocks), &ratio_bytes(ratio_over(&fields))]),
+        Ok(clocks) => accepted(DECODE, &[&clock_bytes(clocks)]),
         Err(thrown) => refusal(DECODE, thrown),
     }
 }

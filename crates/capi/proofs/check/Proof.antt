@@ -14,5 +14,4 @@ pub check-spec : {M : Type 1} → statement M
 check-spec =
     tie.close
     (tie.spec (search rules) (search rules) (search rules) (search rules) returns
-    (λ c. let at-checked = c.before.before.before in
-    simp (told checked_says at-checked.before.before.check_profile_lem.ensures at-checked.checked.given.1)))
+    (λ c. simp (told checked_says c.before.before.before.before.check_profile_lem.ensures c.before.before.checked.given.1)))

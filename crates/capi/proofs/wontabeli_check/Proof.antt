@@ -7,4 +7,4 @@ pub wontabeli-check-spec : {M : Type 1} → statement M
 wontabeli-check-spec =
     tie.close
     (tie.spec (search rules) (search rules) (search rules)
-    (λ c. rw (sym c.before.before.before.before.check.ensures) c.before.before.give-nine.ensures))
+    (λ c. rw (sym c.before.before.before.before.check.ensures) c.before.before.give-seven.ensures))

@@ -7,4 +7,4 @@ pub wontabeli-decode-spec : {M : Type 1} → statement M
 wontabeli-decode-spec =
     tie.close
     (tie.spec (search rules) (search rules) (search rules)
-    (λ c. rw (sym c.before.before.before.before.decode.ensures) c.before.before.give-eight.ensures))
+    (λ c. rw (sym c.before.before.before.before.decode.ensures) c.before.before.give-six.ensures))

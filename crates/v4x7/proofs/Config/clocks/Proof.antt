@@ -1,9 +1,10 @@
 use mathlib.Core.Path.{◌≡◌, sym}
 use borrow.Author.Rules.{rules}
 use Rattle.answer.specs.Answer.{told}
+use Rattle.answer.specs.Said.{reply_says}
 use Rattle.divider.specs.Frequency.{rate_says}
 use Rattle.tree.specs.Tree.{buses_says}
-use Rattle.v4x7.specs.Check.{promise_of, check_of}
+use Rattle.v4x7.specs.Check.{record_of, check_of}
 use Rattle.v4x7.proofs.Config.clocks.Statement.{statement}
 use Rattle.v4x7.proofs.Config.clocks.Tie as tie
 
@@ -27,7 +28,7 @@ returns-2 c =
 -- what the definition leaves to do where the system clock is known
 from-system : (c : tie.After-rate)
     → let self = c.before.before.before.before.before.args.self in
-    check_of self ≡ promise_of c.rate.given.0.0 self
+    check_of self ≡ record_of c.rate.given.0.0 self
 unfolding check_of
 from-system c =
     let at-system = c.before.before in
@@ -40,24 +41,38 @@ from-system c =
 
 returns-3 : tie.Need-returns-3
 returns-3 c =
+    let at-adc = c.before.before.before in
+    let at-clocks = at-adc.before.before in
+    let at-bus-clocks = at-clocks.before.before in
+    rw (
+      from-system at-bus-clocks.before.before,
+      told buses_says at-bus-clocks.bus-clocks.ensures at-clocks.clocks.given.1,
+      c.refusal2.ensures,
+      c.before.enum-told2.given.1,
+      told reply_says at-adc.adc.ensures c.before.enum-told2.given.1,
+    )
+
+returns-4 : tie.Need-returns-4
+returns-4 c =
     let at-bus-clocks = c.before.before.before in
     rw (
       from-system at-bus-clocks.before.before,
       told buses_says at-bus-clocks.bus-clocks.ensures c.before.n.given.1,
     )
 
-returns-4 : tie.Need-returns-4
-returns-4 c =
-    let at-six = c.before.before in
-    let at-bus-clocks = at-six.before.before in
+returns-5 : tie.Need-returns-5
+returns-5 c =
+    let at-adc = c.before.before.before in
+    let at-clocks = at-adc.before.before in
+    let at-bus-clocks = at-clocks.before.before in
     rw (
       from-system at-bus-clocks.before.before,
-      told buses_says at-bus-clocks.bus-clocks.ensures at-six.six.given.1,
-      c.adc.ensures,
+      told buses_says at-bus-clocks.bus-clocks.ensures at-clocks.clocks.given.1,
+      told reply_says at-adc.adc.ensures c.before.sampled.given.1,
     )
 
 pub clocks-spec : {M : Type 1} → statement M
 clocks-spec =
     tie.close
     (tie.spec (search rules) returns (search rules) (search rules) (search rules) (search rules) returns-2 (search rules) (search rules)
-    (search rules) (search rules) returns-3 returns-4)
+    (search rules) (search rules) (search rules) (search rules) (search rules) returns-3 returns-4 returns-5)
