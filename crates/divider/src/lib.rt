@@ -1,4 +1,6 @@
 // The dividers of the four families: a divisor by its code, and a frequency divided by it.
+#![tactic(auto)]
+
 ghost use Rattle.std.specs.Prelude.{◌≡◌, ◌+◌, ◌<◌, ◌≤◌};
 ghost use Rattle.answer.specs.Said.{reply_says};
 ghost use Rattle.divider.specs.Divide.{row_of, ahb_divisor, apb_divisor, fpre_divisor, ahb_of, apb_of, by_ahb_of, by_apb_of, apb_quotient_of, quotient_says};
@@ -7,7 +9,7 @@ ghost use Rattle.divider.specs.Laws.{ShiftFor};
 
 use answer::Reply;
 
-#[derive(Drop)]
+#[derive(Clone, Copy)]
 pub enum Family {
     V4x7,
     V1,
@@ -16,20 +18,20 @@ pub enum Family {
 }
 
 // A frequency, in whole Hz.
-#[derive(Drop)]
+#[derive(Clone, Copy)]
 pub struct Frequency {
     pub hz: u32,
 }
 
 // A frequency, or a refusal number.
-#[derive(Drop)]
+#[derive(Clone, Copy)]
 pub enum Rate {
     At(Frequency),
     Refused(u8),
 }
 
 // The divisor of a code and a frequency divided by it, or a refusal number.
-#[derive(Drop)]
+#[derive(Clone, Copy)]
 pub enum Quotient {
     By { divisor: u32, frequency: Frequency },
     Refused(u8),
