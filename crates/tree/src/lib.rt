@@ -1,11 +1,13 @@
 // The clock tree below SYSCLK, and the product of a PLL.
+#![tactic(auto)]
+
 ghost use Rattle.std.specs.Prelude.{◌≡◌};
 ghost use Rattle.tree.specs.Tree.{doubles, bus_says, bus_of, buses_says, below_of, clocks_of, product_of, wide_says};
 
 use divider::{Family, Frequency, Quotient, Rate};
 
 // The six clocks, in Hz.
-#[derive(Drop)]
+#[derive(Clone, Copy)]
 pub struct Clocks {
     pub sysclk: u32,
     pub hclk: u32,
@@ -16,41 +18,41 @@ pub struct Clocks {
 }
 
 // The six clocks, or a refusal number.
-#[derive(Drop)]
+#[derive(Clone, Copy)]
 pub enum Buses {
     Run(Clocks),
     Refused(u8),
 }
 
 // One bus: its clock and its timers' clock, or a refusal number.
-#[derive(Drop)]
+#[derive(Clone, Copy)]
 pub enum Bus {
     Run { pclk: Frequency, tim: u32 },
     Refused(u8),
 }
 
 // HSE's frequency in Hz, where there is an HSE.
-#[derive(Drop)]
+#[derive(Clone, Copy)]
 pub enum HseFrequency {
     Absent,
     Hz(u32),
 }
 
 // What a PLL makes, in Hz.
-#[derive(Drop)]
+#[derive(Clone, Copy)]
 pub struct Wide {
     pub hz: u64,
 }
 
 // The output of a PLL, where one is configured.
-#[derive(Drop)]
+#[derive(Clone, Copy)]
 pub enum Output {
     Absent,
     At(Frequency),
 }
 
 // The output of a configured PLL or of none; or a refusal number.
-#[derive(Drop)]
+#[derive(Clone, Copy)]
 pub enum Made {
     Is(Output),
     Refused(u8),
