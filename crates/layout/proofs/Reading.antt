@@ -7,7 +7,7 @@ use Prim.Native.Nat.{ℕ, zero, suc, ◌+◌, ◌-◌, ◌*◌, ◌/◌, ◌%◌
 use native.Mathlib.Nat.{le_refl, le_antisymm, mod-one, mod-eq_of_lt, pow-suc, mul_assoc, mul-add-div_right, mul-add-mod_self_right}
 use native.Mathlib.Numerals.{add-one}
 use native.Mathlib.Omega.{arith}
-use borrow.Author.Tests.{ltb_false, lt-ltb}
+use borrow.Author.Tests.{ltb-false, lt-ltb}
 use lib.ListN.{length, get_or, length-replicate}
 use lib.Dec.{ltb, eqb}
 use lib.Pow.{pow_pos, pow-add, shl-shr, shr-shr, shr_mod, mod-pow-add}
@@ -37,7 +37,7 @@ bit_of_flag x = bit_below (x % 2) (omega arith)
 
 below : (limit n : ℕ) (b : Bool) → ltb n limit ≡ b → cond b n limit ≤ n
 below limit n true e = le_refl n
-below limit n false e = ltb_false n limit e
+below limit n false e = ltb-false n limit e
 
 pub up_to_below : (limit n : ℕ) → up_to limit n ≤ n
 up_to_below limit n = below limit n (ltb n limit) refl
@@ -51,7 +51,7 @@ up_to_above limit n k = above limit n k (ltb n limit) refl
 
 all : (limit n : ℕ) → n ≤ limit → (b : Bool) → ltb n limit ≡ b → cond b n limit ≡ n
 all limit n h true e = refl
-all limit n h false e = le_antisymm (ltb_false n limit e) h
+all limit n h false e = le_antisymm (ltb-false n limit e) h
 
 pub up_to_all : (limit n : ℕ) → n ≤ limit → up_to limit n ≡ n
 up_to_all limit n h = all limit n h (ltb n limit) refl

@@ -3,7 +3,7 @@ use Prim.Native.Nat.{ℕ, ◌≤◌, ◌<◌, ◌%◌}
 use mathlib.Core.Path.{◌≡◌, sym, ap, ◌∙◌}
 use mathlib.Core.Bool.{Bool, true, false}
 use mathlib.Core.List.{List, ◌++◌}
-use borrow.Author.Tests.{lt-ltb, le-ltb, ltb_false, le-leb}
+use borrow.Author.Tests.{lt-ltb, le-ltb, ltb-false, le-leb}
 use lib.Dec.{ltb}
 use lib.ListN.{length, drop}
 use Rattle.answer.specs.Answer.{Answer, gives, refuses, ◌>>=◌, bound, followed, passed}
@@ -41,7 +41,7 @@ held {n} {m} {l} w q =
     let fits = passed 32 (ltb (length l) n) (◌>>=◌ m (λ b. gives (b ++ drop n l))) done.gave in
     let its = bound m (λ b. gives (b ++ drop n l)) fits.after in
     let e : done.value ≡ its.value ++ drop n l = (let g : gives (its.value ++ drop n l) ≡ gives done.value = its.after in cc) in
-    record { room = ltb_false (length l) n fits.failed; bytes = its.value; gave = its.gave; lent = w.bytes ∙ ap (after l) done.gave ∙ e }
+    record { room = ltb-false (length l) n fits.failed; bytes = its.value; gave = its.gave; lent = w.bytes ∙ ap (after l) done.gave ∙ e }
 
 -- fields stored where there is room for the whole bytes that they are
 module _ (ws xs l l' : List ℕ) (r : Bool) (whole : total ws % 8 ≡ 0) (room : size_of ws ≤ length l) (s : Stored ws xs l l' r) where

@@ -1,4 +1,6 @@
 // Records packed most significant bit first: a layout is the list of its fields' widths.
+#![tactic(auto)]
+
 ghost use Rattle.std.specs.Prelude.{◌≡◌, [], ◌∷◌, ◌+◌, ◌-◌, ◌*◌, ◌%◌, ◌^◌, ◌≤◌, ◌<◌, ltb, length, get_or};
 ghost use Rattle.std.proofs.lemmas.List.Edits.{sets};
 ghost use Rattle.layout.specs.Bits.{bits_at, flag_at, up_to, field_at, loaded};
@@ -8,7 +10,7 @@ ghost use Rattle.layout.specs.Numbers.{with_numbers};
 ghost use Rattle.layout.specs.Stored.{Stored};
 
 // The bits of a record that don't make a byte yet: `count` of them spell `value`, and go to the byte `at`.
-#[derive(Drop)]
+#[derive(Clone, Copy)]
 struct Pending {
     at: usize,
     count: u8,

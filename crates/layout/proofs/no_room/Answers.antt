@@ -1,12 +1,10 @@
--- `layout::no_room` meets its contract. Assumes nothing.
 use mathlib.Core.Bool.{Bool, true, false}
 use mathlib.Core.Path.{◌≡◌, refl, sym, ◌∙◌}
 use Prim.Native.Nat.{ℕ, ◌+◌, ◌-◌, ◌*◌, ◌/◌, ◌<◌, ◌≤◌}
 use native.Mathlib.Omega.{arith}
-use borrow.Author.Tests.{ltb-true, ltb_false, lt-ltb, le-ltb}
+use borrow.Author.Tests.{ltb-true, ltb-false, lt-ltb, le-ltb}
 use lib.Dec.{ltb}
-use Rattle.layout.proofs.no_room.Statement.{statement}
-use Rattle.layout.proofs.no_room.Tie as tie
+use Rattle.layout.proofs.no_room.Goals as goal
 
 module _ (lent at n : ℕ) where
   beyond : lent < at → ltb lent at ≡ ltb lent (at + 4 * n)
@@ -14,10 +12,10 @@ module _ (lent at n : ℕ) where
 
   within : at ≤ lent → (t : Bool) → ltb ((lent - at) / 4) n ≡ t → t ≡ ltb lent (at + 4 * n)
   within h true e = let k = ltb-true ((lent - at) / 4) n e in sym (lt-ltb lent (at + 4 * n) (omega arith))
-  within h false e = let k = ltb_false ((lent - at) / 4) n e in sym (le-ltb lent (at + 4 * n) (omega arith))
+  within h false e = let k = ltb-false ((lent - at) / 4) n e in sym (le-ltb lent (at + 4 * n) (omega arith))
 
-pub no-room-spec : {M : Type 1} → statement M
-no-room-spec =
-    tie.close
-    (tie.spec (λ c. let args = c.before.args in beyond args.lent args.at args.n c.if1.true)
-    (λ c. let args = c.before.args in within args.lent args.at args.n c.if1.false _ refl))
+pub returns-then-lent-at : goal.returns-then-lent-at
+returns-then-lent-at c = let args = c.args in beyond args.lent args.at args.n c.if-lent-at.true
+
+pub returns-else-lent-at : goal.returns-else-lent-at
+returns-else-lent-at c = let args = c.args in within args.lent args.at args.n c.if-lent-at.false _ refl

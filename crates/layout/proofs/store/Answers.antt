@@ -1,4 +1,3 @@
--- `layout::store` meets its contract. The invariant: the first i fields are gathered. Assumes nothing.
 use mathlib.Core.Path.{◌≡◌, refl, sym, ap, ap₂, ◌∙◌}
 use mathlib.Core.Bool.{true, false, ◌&&◌}
 use mathlib.Core.List.{List, ◌++◌}
@@ -14,18 +13,9 @@ use Rattle.layout.specs.declared.Pending.{Pending}
 use Rattle.layout.specs.Gathered.{Gathered, Fits}
 use Rattle.layout.specs.Stored.{Stored}
 use Rattle.layout.proofs.Laws.{fits_each, fits_fitting, fitting_length, total_next, total_take, pack_next, unpack_pack}
-use Rattle.layout.proofs.store.Statement.{statement}
-use Rattle.layout.proofs.store.Tie as tie
-
-record Storing (ws xs was out : List ℕ) (p : Pending) (i : ℕ) : Type 0 where
-  within : i ≤ length ws
-  gathered : Gathered was (total (take i ws)) (pack (take i ws) (take i xs)) out p
-
-abbrev invariant-loop : tie.invariant-loop
-invariant-loop ws xs out₀ p₀ i₀ out p i = Storing ws xs out₀ out p i
-
-abbrev decreases-loop : tie.decreases-loop
-decreases-loop ws xs out₀ p₀ i₀ out p i = length ws - i
+use Rattle.layout.proofs.store.Invariants.{Storing}
+use Rattle.layout.proofs.store.Goals as goal
+use Rattle.layout.proofs.store.Goals.{Else-not-fits}
 
 module _ (ws xs was : List ℕ) (t : storable ws xs (length was) ≡ true) where
   fit : fields_fit ws xs ≡ true
@@ -92,51 +82,39 @@ module _ (ws xs was : List ℕ) (t : storable ws xs (length was) ≡ true) where
 refused : (ws xs l : List ℕ) → storable ws xs (length l) ≡ false → Stored ws xs l l false
 refused ws xs l e = record { answer = sym e; bytes = rw e }
 
-returns : tie.Need-returns invariant-loop decreases-loop
-returns c =
-    let a = c.before.before.before.before.before.args in
-    refused a.ws.now a.xs.now a.out.now (sym c.before.fits2.ensures ∙ not-true _ c.if1.true)
+-- that the fields can be stored was tested
+tested : (c : goal.Else-not-fits)
+    → let a = c.args in storable a.ws.now a.xs.now (length a.out.now) ≡ true
+tested c = sym c.fits.ensures ∙ c.if-not-fits.false
 
-loop-holds : tie.Need-loop-init invariant-loop decreases-loop
-loop-holds c = record {
+pub returns-then-not-fits : goal.returns-then-not-fits
+returns-then-not-fits c =
+    let a = c.args in
+    refused a.ws.now a.xs.now a.out.now (sym c.fits.ensures ∙ c.if-not-fits.true)
+
+pub loop-i-init : goal.loop-i-init
+loop-i-init c = record {
   within = omega arith;
   gathered = record { bits = refl; few = omega arith; small = omega arith; spells = refl; low = refl; long = refl; beyond = refl };
 }
 
--- that the fields can be stored was tested
-tested : (c : tie.Else1 invariant-loop decreases-loop)
-    → let a = c.before.before.before.before.before.args in storable a.ws.now a.xs.now (length a.out.now) ≡ true
-tested c = sym c.before.fits2.ensures ∙ not-false _ c.if1.false
+pub bounds-xs-i : goal.bounds-xs-i
+bounds-xs-i c =
+    let a = c.args in
+    omega (arith, same_count a.ws.now a.xs.now a.out.now (tested (goal.at.bounds-xs-i c).Else-not-fits))
 
-shared-slice-read-gather-2 : tie.Need-shared-slice-read-gather-2 invariant-loop decreases-loop
-shared-slice-read-gather-2 c =
-    let at-if1 = c.before.before.before.before.before in
-    let a = at-if1.before.before.before.before.before.args in
-    omega (arith, same_count a.ws.now a.xs.now a.out.now (tested at-if1))
+pub gather-p-requires : goal.gather-p-requires
+gather-p-requires c =
+    let a = c.args in
+    next_fits a.ws.now a.xs.now a.out.now (tested (goal.at.gather-p-requires c).Else-not-fits) _ _ _ c.loop-i.invariant c.loop-i-test.true
 
-gather-requires : tie.Need-gather-requires invariant-loop decreases-loop
-gather-requires c κs =
-    let at_test = c.before.before.before in
-    let l = at_test.before in
-    let a = l.before.before.before.before.before.before.args in
-    next_fits a.ws.now a.xs.now a.out.now (tested l.before) _ _ _ l.loop.invariant at_test.loop-test.true
+pub loop-i-preserved : goal.loop-i-preserved
+loop-i-preserved c =
+    let a = c.args in
+    next a.ws.now a.xs.now a.out.now (tested (goal.at.loop-i-preserved c).Else-not-fits) _ _ _ c.loop-i.invariant c.loop-i-test.true _ _
+    (c.gather-p.ensures.more _ _ _ c.loop-i.invariant.gathered)
 
-loop-again : tie.Need-loop-preserved invariant-loop decreases-loop
-loop-again c =
-    let at_test = c.before.before.before.before.before.before in
-    let l = at_test.before in
-    let a = l.before.before.before.before.before.before.args in
-    next a.ws.now a.xs.now a.out.now (tested l.before) _ _ _ l.loop.invariant at_test.loop-test.true _ _
-    (c.before.before.gather.ensures.more _ _ _ l.loop.invariant.gathered)
-
-returns-2 : tie.Need-returns-2 invariant-loop decreases-loop
-returns-2 c =
-    let at-if1 = c.before.before in
-    let a = at-if1.before.before.before.before.before.args in
-    done a.ws.now a.xs.now a.out.now (tested at-if1) _ _ _ c.before.loop.invariant c.loop-test.false
-
-pub store_spec : {M : Type 1} → statement M
-store_spec =
-    tie.close
-    (tie.spec invariant-loop decreases-loop (λ c. omega arith) returns loop-holds (λ c. omega arith) shared-slice-read-gather-2 gather-requires (λ c. omega arith)
-    (λ c. omega arith) loop-again (λ c. c.before.loop.invariant.gathered.long) returns-2)
+pub returns : goal.returns
+returns c =
+    let a = c.args in
+    done a.ws.now a.xs.now a.out.now (tested (goal.at.returns c).Else-not-fits) _ _ _ c.loop-i.invariant c.loop-i-test.false

@@ -1,0 +1,26 @@
+use mathlib.Core.Path.{◌≡◌, refl, sym, ap, ap₂, ◌∙◌}
+use mathlib.Core.Bool.{Bool, true, false, ◌&&◌, not}
+use mathlib.Core.List.{List, []}
+use Prim.Native.Nat.{ℕ, ◌+◌, ◌*◌, ◌/◌, ◌%◌, ◌^◌, ◌≤◌, ◌<◌, ◌-◌}
+use native.Mathlib.Omega.{arith}
+use borrow.Author.Tests.{not-true, not-false, leb-true}
+use lib.Dec.{eqb, leb, ltb}
+use lib.ListN.{length, drop, take, get_or}
+use lib.Seq.{drop-length, take-length}
+use Rattle.answer.specs.Tools.{and_left}
+use Rattle.layout.specs.Layout.{total, fields_fit, field_fits, storable}
+use Rattle.layout.proofs.Laws.{fits_at, fits_fitting, fitting_length, total_next}
+use Rattle.layout.proofs.fits.Given as goal
+
+pub record Passed (ws xs : List ℕ) (size count i : ℕ) : Type 0 where
+  pub within : i ≤ length ws
+  pub same : fields_fit ws xs ≡ fields_fit (drop i ws) (drop i xs)
+  pub bits : 8 * size + count ≡ total (take i ws)
+  pub few : count < 8
+  pub near : size ≤ i
+
+abbrev pub invariant-loop-i : goal.invariant-loop-i
+invariant-loop-i l = Passed l.ws l.xs l.size l.count l.i
+
+abbrev pub decreases-loop-i : goal.decreases-loop-i
+decreases-loop-i l = length l.ws - l.i

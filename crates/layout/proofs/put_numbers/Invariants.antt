@@ -1,0 +1,20 @@
+use mathlib.Core.Path.{◌≡◌, refl, sym, ap, ◌∙◌}
+use mathlib.Core.List.{List, []}
+use Prim.Native.Nat.{ℕ, ◌+◌, ◌-◌, ◌*◌, ◌≤◌}
+use native.Mathlib.Nat.{add-zero}
+use native.Mathlib.Omega.{arith}
+use borrow.Author.Tests.{ltb-false}
+use lib.ListN.{length, get_or, drop}
+use lib.Seq.{sets, length-sets, drop-length}
+use Rattle.layout.specs.Layout.{unpack, bytes}
+use Rattle.layout.specs.Numbers.{in_fours}
+use Rattle.layout.proofs.Filling.{number_stored, numbers_put, none_put}
+use Rattle.layout.proofs.put_numbers.Given as goal
+
+abbrev pub invariant-loop-i : goal.invariant-loop-i
+invariant-loop-i l =
+    (l.i ≤ length l.xs) × (length l.out ≡ length l.initial.out) × (l.at + 4 * length l.xs ≤ length l.initial.out)
+    × (sets l.out (l.at + 4 * l.i) (in_fours (drop l.i l.xs)) ≡ sets l.initial.out l.at (in_fours l.xs))
+
+abbrev pub decreases-loop-i : goal.decreases-loop-i
+decreases-loop-i l = length l.xs - l.i
