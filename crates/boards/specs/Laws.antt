@@ -1,7 +1,7 @@
 -- What follows of a tray: each record is its own board's, and trays lie back to back.
 -- Assumes nothing.
 use Rattle.std.specs.Prelude.{ℕ, zero, suc, ◌+◌, ◌*◌, ◌%◌, ◌<◌, ◌≤◌, ◌≡◌, refl, Bool, true, false, not, List, [], ◌∷◌, ◌++◌, eqb, ltb, length, take, drop}
-use Rattle.std.proofs.Common.{sym, ap, ◌∙◌, append-nil, append_assoc, zero-add, arith, lt-ltb, le-ltb, ltb-true, ltb_false, length-append, length-drop, length-take-le, take_all, take_at, drop_at, drop-drop}
+use Rattle.std.proofs.Common.{sym, ap, ◌∙◌, append-nil, append_assoc, zero-add, arith, lt-ltb, le-ltb, ltb-true, ltb-false, length-append, length-drop, length-take-le, take_all, take_at, drop_at, drop-drop}
 use Rattle.std.proofs.lemmas.List.{take-append-le, drop-append-le}
 use Rattle.std.proofs.Math.Seq.{drop-append-add}
 use Rattle.answer.specs.Answer.{Answer, gives, refuses, refuse, ◌>>=◌, ◌>>◌, passed}
@@ -111,4 +111,4 @@ enough_read s l e = by_test (ltb 20490 (length s)) refl
         let more = ltb-true 20490 (length s) t in
         let size = length-take-le 20490 s (omega arith) in
         rw (lt-ltb (length l) (32 * boards_in (take 20490 s)) (omega arith), lt-ltb (length l) (32 * boards_in s) (omega arith))
-    by_test false t = ap (λ (p : List ℕ). tray_into p l) (take_all 20490 s (ltb_false 20490 (length s) t))
+    by_test false t = ap (λ (p : List ℕ). tray_into p l) (take_all 20490 s (ltb-false 20490 (length s) t))

@@ -17,14 +17,14 @@ pub const CHECK_WORDS: usize = 7;
 pub const PAIR_WORDS: usize = 2;
 
 // The six clocks and one more number, or a refusal number.
-#[derive(Drop)]
+#[derive(Clone, Copy)]
 pub enum Sevenfold {
     Are { clocks: Clocks, more: u32 },
     Refused(u8),
 }
 
 // Two numbers, or a refusal number.
-#[derive(Drop)]
+#[derive(Clone, Copy)]
 pub enum Twofold {
     Are { first: u32, second: u32 },
     Refused(u8),

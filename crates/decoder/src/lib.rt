@@ -14,7 +14,7 @@ use tree::{Buses, HseFrequency, Output};
 use v4x7_rules::{ETH_PLL_FREQUENCY, HSI_FREQUENCY, Ratio, USBHS_PLL_FREQUENCY};
 
 // A frequency in Hz, or that its PLL is not ready, or a refusal number.
-#[derive(Drop)]
+#[derive(Clone, Copy)]
 pub enum Query {
     Is(u32),
     NotReady,

@@ -4,7 +4,7 @@ use Prim.Native.Nat.{ℕ, ◌-◌, ◌<◌}
 use mathlib.Core.Path.{◌≡◌, sym, ap, ◌∙◌}
 use mathlib.Core.Bool.{true, false, ◌&&◌}
 use native.Mathlib.Omega.{arith}
-use borrow.Author.Tests.{ltb_false}
+use borrow.Author.Tests.{ltb-false}
 use lib.Dec.{ltb}
 use Rattle.answer.specs.Answer.{gives}
 use Rattle.answer.specs.Order.{bare, none_holds}
@@ -33,7 +33,7 @@ pub record Accepted (c : Config) : Type 0 where
 
 divisor_fits : (a : AdcClockSource) (ahb : ℕ) → (adc_from_usb_hs a && outside 1 32 (adc_first a ahb)) ≡ false → DivisorFits a
 divisor_fits adc.Hclk ahb q = tt
-divisor_fits (adc.UsbHsPll d) ahb q = let top = ltb_false 32 d (neither (ltb d 1) (ltb 32 d) q).1 in omega arith
+divisor_fits (adc.UsbHsPll d) ahb q = let top = ltb-false 32 d (neither (ltb d 1) (ltb 32 d) q).1 in omega arith
 
 pub accepted_tells : (c : Config) {x : ClockRecord} → check_of c ≡ gives x → Accepted c
 accepted_tells c q =

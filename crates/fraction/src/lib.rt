@@ -1,9 +1,11 @@
 // A fraction in lowest terms: in the clock record of CH32V4x7, the ADC's source over its divisor.
+#![tactic(auto)]
+
 ghost use Rattle.std.specs.Prelude.{◌≡◌};
 ghost use Rattle.fraction.specs.Fraction.{gcd_of, lowest_of};
 
 // A source over a divisor. 0 over 0 says that there is none.
-#[derive(Drop)]
+#[derive(Clone, Copy)]
 pub struct Fraction {
     pub source: u32,
     pub divisor: u32,

@@ -1,4 +1,6 @@
 // CH32H4: AHB, HCLK and PCLK by their codes, the PLL's multipliers, and the clocks of one configuration.
+#![tactic(auto)]
+
 ghost use Rattle.std.specs.Prelude.{◌≡◌};
 ghost use Rattle.answer.specs.Said.{reply_says};
 ghost use Rattle.divider.specs.declared.Family.TheVariants.{H4};
@@ -12,7 +14,7 @@ use divider::{Family, Frequency, Rate};
 use tree::{Bus, Buses, Clocks};
 
 // The codes of one configuration's prescalers.
-#[derive(Drop)]
+#[derive(Clone, Copy)]
 pub struct Prescale {
     pub hpre: u8,
     pub fpre: u8,
@@ -21,7 +23,7 @@ pub struct Prescale {
 }
 
 // The AHB clock, which is the V5F core's, and the six clocks; or a refusal number.
-#[derive(Drop)]
+#[derive(Clone, Copy)]
 pub enum Prescaled {
     Run { ahb: u32, clocks: Clocks },
     Refused(u8),

@@ -1,4 +1,6 @@
 // The register fields that the clocks depend on, and their image of eight bytes.
+#![tactic(auto)]
+
 ghost use Rattle.std.specs.Prelude.{◌≡◌, ◌≤◌, ◌<◌, get_or};
 ghost use Rattle.layout.specs.Lent.{Wrote};
 ghost use Rattle.layout.specs.Bits.{cut, bit};
@@ -9,7 +11,7 @@ ghost use Rattle.image.specs.Image.{widths, ctlr_of, seen_of, cfgr0_of, cfgr2_of
 use answer::Outcome;
 
 // CTLR: what switches the oscillators and PLLs on.
-#[derive(Drop)]
+#[derive(Clone, Copy)]
 pub struct Ctlr {
     pub hsion: bool,
     pub hsebyp: bool,
@@ -21,7 +23,7 @@ pub struct Ctlr {
 }
 
 // What only the chip writes, and a reading holds: CTLR's ready bits and CFGR0's SWS.
-#[derive(Drop)]
+#[derive(Clone, Copy)]
 pub struct Seen {
     pub hsirdy: bool,
     pub hserdy: bool,
@@ -31,7 +33,7 @@ pub struct Seen {
     pub sws: u8,
 }
 
-#[derive(Drop)]
+#[derive(Clone, Copy)]
 pub struct Cfgr0 {
     pub sw: u8,
     pub pllsrc: bool,
@@ -44,7 +46,7 @@ pub struct Cfgr0 {
     pub adc_duty: u8,
 }
 
-#[derive(Drop)]
+#[derive(Clone, Copy)]
 pub struct Cfgr2 {
     pub usbhspllsrc: u8,
     pub usbhspllclk: u8,
@@ -55,13 +57,13 @@ pub struct Cfgr2 {
     pub i2spllsrc: bool,
 }
 
-#[derive(Drop)]
+#[derive(Clone, Copy)]
 pub struct Cfgr3 {
     pub adc_clkdiv: u8,
 }
 
 // FLASH CTLR.
-#[derive(Drop)]
+#[derive(Clone, Copy)]
 pub struct Flash {
     pub sckmod: u8,
     pub lock: bool,
@@ -69,7 +71,7 @@ pub struct Flash {
 }
 
 // The 33 fields, register by register, in the image's order.
-#[derive(Drop)]
+#[derive(Clone, Copy)]
 pub struct Fields {
     pub ctlr: Ctlr,
     pub seen: Seen,
@@ -80,7 +82,7 @@ pub struct Fields {
 }
 
 // What reading an image gives: the fields, or a refusal number.
-#[derive(Drop)]
+#[derive(Clone, Copy)]
 pub enum ReadImage {
     Image(Fields),
     Refused(u8),

@@ -9,14 +9,14 @@ use ticks::Ticked;
 use v4x7::Config;
 
 // What a call leaves in the place, and what it answers.
-#[derive(Drop)]
+#[derive(Clone, Copy)]
 struct Stepping {
     place: Ticked,
     report: Report,
 }
 
 // What starting leaves in the place, and its number: 0, or the refusal's.
-#[derive(Drop)]
+#[derive(Clone, Copy)]
 struct Starting {
     place: Ticked,
     number: u8,

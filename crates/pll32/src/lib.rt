@@ -1,4 +1,6 @@
 // What CH32V1, CH32L1 and CH32V30x share: the PLL whose product must fit 32 bits, the choice of SYSCLK, and the answer of a check.
+#![tactic(auto)]
+
 ghost use Rattle.std.specs.Prelude.{◌≡◌, ◌<◌};
 ghost use Rattle.divider.specs.Frequency.{rate_says};
 ghost use Rattle.tree.specs.Tree.{buses_says};
@@ -8,7 +10,7 @@ use divider::{Family, Frequency, Rate};
 use tree::{Buses, Clocks, HseFrequency, Output};
 
 // The parts. L1 differs from V1 in one multiplier and one USB divisor.
-#[derive(Drop)]
+#[derive(Clone, Copy)]
 pub enum Part {
     V1,
     L1,
@@ -16,21 +18,21 @@ pub enum Part {
 }
 
 // The crystal or the clock fed in from outside (`bypass`), with its frequency in Hz.
-#[derive(Drop)]
+#[derive(Clone, Copy)]
 pub enum Hse {
     Absent,
     Present { bypass: bool, freq: u32 },
 }
 
 // What feeds a PLL.
-#[derive(Drop)]
+#[derive(Clone, Copy)]
 pub enum Source {
     Hsi,
     Hse,
 }
 
 // How a PLL is set: its source, the code of its predivider (the divisor less one) and the PLLMUL code. Both codes have four bits.
-#[derive(Drop)]
+#[derive(Clone, Copy)]
 pub struct Setting {
     pub source: Source,
     pub prediv: u8,
@@ -38,14 +40,14 @@ pub struct Setting {
 }
 
 // The clock record of an accepted configuration: the six clocks and, apart, the USB divisor of the PLL's output, doubled (1.5 is 3), 0 for none.
-#[derive(Drop)]
+#[derive(Clone, Copy)]
 pub struct ClockRecord {
     pub clocks: Clocks,
     pub usb: u8,
 }
 
 // The answer of a check: the clock record, or the first refusal in document 01's order.
-#[derive(Drop)]
+#[derive(Clone, Copy)]
 pub enum Checked {
     Accepted(ClockRecord),
     Refused(u8),

@@ -7,7 +7,7 @@ use tree::{Buses, HseFrequency};
 use v4x7::Hse;
 
 // A run so far: the startup, the last report and whether there was one, the script's place, the calls, and how many of them named step 19.
-#[derive(Drop)]
+#[derive(Clone, Copy)]
 struct Run {
     startup: Startup,
     report: Report,

@@ -3,7 +3,7 @@ use crate::query;
 use startup::Reading;
 
 // Where a script stands: the segment in use, and how many of its readings were used.
-#[derive(Drop)]
+#[derive(Clone, Copy)]
 pub struct Cursor {
     pub segment: usize,
     pub taken: u32,

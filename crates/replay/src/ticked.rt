@@ -5,7 +5,7 @@ use startup::{Report, Started, Startup};
 use ticks::{Ticked, Waits};
 
 // A run so far: the startup and its ticks, the last report, the script's place, and the next call's tick.
-#[derive(Drop)]
+#[derive(Clone, Copy)]
 struct Run {
     ticked: Ticked,
     report: Report,

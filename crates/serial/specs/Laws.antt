@@ -1,7 +1,7 @@
 -- What document 02 says of BRR and its error, over every PCLK and every rate above 0.
 -- Assumes nothing.
 use Rattle.std.specs.Prelude.{◌≡◌, refl, Bool, true, false, cond, ◌||◌, ◌↔◌, ℕ, zero, suc, ◌+◌, ◌-◌, ◌*◌, ◌/◌, ◌^◌, ◌<◌, ◌≤◌, ltb, eqb}
-use Rattle.std.proofs.Common.{sym, ap, subst, ◌∙◌, mul-le-mul, le_refl, le_antisymm, mul-suc, mul-add, mul-one, mul_assoc, mul_comm, arith, ltb-true, ltb_false}
+use Rattle.std.proofs.Common.{sym, ap, subst, ◌∙◌, mul-le-mul, le_refl, le_antisymm, mul-suc, mul-add, mul-one, mul_assoc, mul_comm, arith, ltb-true, ltb-false}
 use Rattle.std.specs.Int.{◌∣◌}
 use Rattle.std.proofs.Math.Nat.{mul-div-le, lt-mul-div-succ, dvd-mul_right, div-mul_cancel}
 use lib.IntN.{ℤ, pos, negsuc, ◌+ℤ◌, ◌-ℤ◌, +ℤ_invr, -ℤ-+ℤ_cancel}
@@ -62,17 +62,17 @@ nearest p r h = record { none_nearer = λ m. by_side m; the_higher = λ m e. not
     by_side m =
         cases (ltb m (nearest_of p r)) (λ e. lower m (ltb-true m (nearest_of p r) e))
         (λ e. cases (ltb (nearest_of p r) m) (λ f. omega (arith, higher m (ltb-true (nearest_of p r) m f)))
-        (λ f. rw (le_antisymm (ltb_false m (nearest_of p r) e) (ltb_false (nearest_of p r) m f)) (le_refl _)))
+        (λ f. rw (le_antisymm (ltb-false m (nearest_of p r) e) (ltb-false (nearest_of p r) m f)) (le_refl _)))
 
     not_above : (m : ℕ) → apart p (r * m) ≡ apart p (r * nearest_of p r) → m ≤ nearest_of p r
     not_above m e =
-        cases (ltb (nearest_of p r) m) (λ f. absurd (omega (arith, e, higher m (ltb-true (nearest_of p r) m f)))) (λ f. ltb_false (nearest_of p r) m f)
+        cases (ltb (nearest_of p r) m) (λ f. absurd (omega (arith, e, higher m (ltb-true (nearest_of p r) m f)))) (λ f. ltb-false (nearest_of p r) m f)
 
 -- the error is 0 exactly if the rate divides PCLK
 
 by_sign : (a b x y : ℕ) (t : Bool) → ltb a b ≡ t → y ≡ a - b → cond t (negsuc x) (pos y) ≡ pos 0 → a ≡ b
 by_sign a b x y true e ey z = absurd (lib.IntN.pos-ne-negsuc 0 x (sym z))
-by_sign a b x y false e ey z = let o = ltb_false a b e in let y0 : y ≡ 0 = cc in omega arith
+by_sign a b x y false e ey z = let o = ltb-false a b e in let y0 : y ≡ 0 = cc in omega arith
 
 difference_zero : (a b : ℕ) → pos a -ℤ pos b ≡ pos 0 → a ≡ b
 difference_zero a zero z = let e : a + 0 ≡ 0 = cc in omega arith

@@ -4,7 +4,7 @@ use Rattle.std.specs.Prelude.{◌≡◌, refl, Bool, true, false, cond, not, ◌
 use Rattle.std.proofs.Math.Path.{sym}
 use Rattle.std.proofs.Common.{ap, ◌∙◌, div-lt_iff_lt-mul, le-div_iff_mul-le}
 use native.Mathlib.Omega.{arith}
-use borrow.Author.Tests.{ltb-true, ltb_false, lt-ltb, le-ltb, le-leb, lt-leb, eqb-false}
+use borrow.Author.Tests.{ltb-true, ltb-false, lt-ltb, le-ltb, le-leb, lt-leb, eqb-false}
 use Rattle.answer.specs.Answer.{Answer, gives, refuses, refuse, ◌>>=◌, ◌>>◌}
 use Rattle.answer.specs.Order.{Test, first_of, bare, InOrder, order_gives, order_past}
 use Rattle.answer.specs.Lists.{order_either}
@@ -37,14 +37,14 @@ module _ (p r : ℕ) (h : 0 < r) where
   below_16 =
       cases (ltb (nearest_of p r) 16)
       (λ e. let k = (div-lt_iff_lt-mul (double h)).0 (ltb-true (nearest_of p r) 16 e) in e ∙ sym (lt-ltb (2 * p) (31 * r) (omega arith)))
-      (λ e. let k = (le-div_iff_mul-le (double h)).0 (ltb_false (nearest_of p r) 16 e) in e ∙ sym (le-ltb (2 * p) (31 * r) (omega arith)))
+      (λ e. let k = (le-div_iff_mul-le (double h)).0 (ltb-false (nearest_of p r) 16 e) in e ∙ sym (le-ltb (2 * p) (31 * r) (omega arith)))
 
   above_65535 : ltb 65535 (nearest_of p r) ≡ leb (131071 * r) (2 * p)
   unfolding nearest_of
   above_65535 =
       cases (ltb 65535 (nearest_of p r))
       (λ e. let k = (le-div_iff_mul-le (double h)).0 (ltb-true 65535 (nearest_of p r) e) in e ∙ sym (le-leb (131071 * r) (2 * p) (omega arith)))
-      (λ e. let g = ltb_false 65535 (nearest_of p r) e in
+      (λ e. let g = ltb-false 65535 (nearest_of p r) e in
       let k = (div-lt_iff_lt-mul (double h)).0 (let l : nearest_of p r < 65536 = omega arith in l) in
       e ∙ sym (lt-leb (131071 * r) (2 * p) (omega arith)))
 

@@ -1,4 +1,6 @@
 // Serial divisors: from a bus's clock and a wanted rate, BRR and the error that is left.
+#![tactic(auto)]
+
 ghost use Rattle.std.specs.Prelude.{◌≡◌, ◌<◌};
 ghost use Rattle.serial.specs.Serial.{nearest_of, error_of, serial_says, divisor_of, port_of};
 
@@ -10,7 +12,7 @@ const BRR_MIN: u64 = 16;
 const BRR_MAX: u64 = 65535;
 
 // What a port is set to: BRR, and the error PCLK - rate x BRR; or a refusal number.
-#[derive(Drop)]
+#[derive(Clone, Copy)]
 pub enum Serial {
     Set { brr: u16, error: i32 },
     Refused(u8),

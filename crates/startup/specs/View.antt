@@ -1,7 +1,7 @@
 -- One view of a call of a startup that is not over: each event that it can come to, and what is then known. A property of calls is one function over it.
 -- Assumes nothing.
 use Rattle.std.specs.Prelude.{ℕ, ◌+◌, ◌≤◌, ◌<◌, ◌≡◌, refl, Bool, true, false, cond, not, ◌||◌, eqb, leb}
-use Rattle.std.proofs.Common.{arith, ltb-true, ltb_false, leb-true, leb-false}
+use Rattle.std.proofs.Common.{arith, ltb-true, ltb-false, leb-true, leb-false}
 use Rattle.std.proofs.Math.Dec.{ltb}
 use Rattle.answer.specs.Tools.{neither}
 use Rattle.image.specs.declared.Fields.{Fields}
@@ -37,7 +37,7 @@ module _ (limit : ℕ) (s : Startup) (r : Reading) (listed : Bool) where
       (λ t. let few = leb-false limit s.unmet t in
       by_cond Of ok (λ e. meets h few e)
       (λ e. by_cond Of (ltb (s.unmet + 1) limit) (λ b. waits h (ltb-true _ _ b) e)
-      (λ b. let most = ltb_false (s.unmet + 1) limit b in misses h (omega arith) e)))
+      (λ b. let most = ltb-false (s.unmet + 1) limit b in misses h (omega arith) e)))
   of_work (Reads mode) h = by_cond (View limit s listed (Reads mode)) (eqb (mode_read r) mode) (λ t. shows h) (λ t. differs h)
   of_work (Compares same) h = ends h
   of_work NotListed h = none
@@ -46,4 +46,4 @@ module _ (limit : ℕ) (s : Startup) (r : Reading) (listed : Bool) where
   unfolding call_of
   view w =
       by_cond (View limit s listed w) (not listed || ltb 8000001 s.used) (λ t. off t)
-      (λ t. of_work w (ltb_false 8000001 s.used (neither (not listed) (ltb 8000001 s.used) t).1))
+      (λ t. of_work w (ltb-false 8000001 s.used (neither (not listed) (ltb 8000001 s.used) t).1))

@@ -21,14 +21,14 @@ const READINGS: u32 = 1_000_000;
 const MOST_READINGS: u32 = 8_000_001;
 
 // What the host read from the chip: the ready bits and SWS, and SCKMOD. Of these two the low two bits count.
-#[derive(Drop)]
+#[derive(Clone, Copy)]
 pub struct Reading {
     pub seen: Seen,
     pub sckmod: u8,
 }
 
 // What came of a call: the step, and how many readings are used by now.
-#[derive(Drop)]
+#[derive(Clone, Copy)]
 pub enum Report {
     // The step is worked: written, or its reading found right. At 19 the host writes the keys.
     Worked { step: u8, used: u32 },
@@ -76,14 +76,14 @@ pub fn named_step(report: Report) -> u8
     }
 }
 
-#[derive(Drop)]
+#[derive(Clone, Copy)]
 pub enum Phase {
     Going,
     // Over, with the last report.
     Over(Report),
 }
 
-#[derive(Drop)]
+#[derive(Clone, Copy)]
 pub struct Startup {
     pub config: Config,
     pub fields: Fields,
@@ -96,20 +96,20 @@ pub struct Startup {
     pub phase: Phase,
 }
 
-#[derive(Drop)]
+#[derive(Clone, Copy)]
 pub struct Stepped {
     pub startup: Startup,
     pub report: Report,
 }
 
-#[derive(Drop)]
+#[derive(Clone, Copy)]
 pub enum Started {
     Begun(Startup),
     NotStarted(u8),
 }
 
 // A key that the host writes at step 19, and to which register.
-#[derive(Drop)]
+#[derive(Clone, Copy)]
 pub enum FlashKey {
     Keyr(u32),
     ModeKeyr(u32),

@@ -13,7 +13,7 @@ use v4x7::{AdcClockSource, Config, HsPll, Hse, Pll};
 use v4x7_rules::HSI_FREQUENCY;
 
 // What comes of a step.
-#[derive(Drop)]
+#[derive(Clone, Copy)]
 pub enum Work {
     // The fields, with the step's writes done.
     Wrote(Fields),

@@ -1,7 +1,7 @@
 -- What follows of a number in decimal: it spells the number and has no leading zero.
 -- Assumes nothing.
 use Rattle.std.specs.Prelude.{◌≡◌, refl, Bool, true, false, cond, List, [], ◌∷◌, ◌++◌, ℕ, zero, suc, ◌+◌, ◌-◌, ◌*◌, ◌/◌, ◌%◌, ◌^◌, ◌<◌, ◌≤◌, ltb, length, get_or}
-use Rattle.std.proofs.Common.{ap, pow-suc, not-suc-le-zero, arith, ltb-true, ltb_false, lt-ltb, le-ltb, length-append}
+use Rattle.std.proofs.Common.{ap, pow-suc, not-suc-le-zero, arith, ltb-true, ltb-false, lt-ltb, le-ltb, length-append}
 use Rattle.std.proofs.Math.ListN.{get_or-append}
 use Rattle.text.specs.Decimal.{digits, decimal}
 
@@ -18,7 +18,7 @@ enough zero k n h g = absurd (not-suc-le-zero h)
 enough (suc j) zero n h g = absurd (not-suc-le-zero g)
 enough (suc j) (suc k) n h g =
     ap (λ (l : List ℕ). l ++ ((48 + n % 10) ∷ []))
-    (same (ltb n 10) (digits j (n / 10)) (digits k (n / 10)) (λ e. let o = ltb_false n 10 e in enough j k (n / 10) (omega arith) (omega arith)))
+    (same (ltb n 10) (digits j (n / 10)) (digits k (n / 10)) (λ e. let o = ltb-false n 10 e in enough j k (n / 10) (omega arith) (omega arith)))
 
 pub one_digit : (n : ℕ) → n < 10 → decimal n ≡ (48 + n % 10) ∷ []
 unfolding decimal digits
@@ -34,11 +34,11 @@ unfolding digits
 bounded zero k n h g = absurd (not-suc-le-zero h)
 bounded (suc j) zero n h g =
     ap (λ (l : List ℕ). l ++ ((48 + n % 10) ∷ []))
-    (same (ltb n 10) (digits j (n / 10)) [] (λ e. let o = ltb_false n 10 e in absurd (omega (arith, pow-suc 10 0))))
+    (same (ltb n 10) (digits j (n / 10)) [] (λ e. let o = ltb-false n 10 e in absurd (omega (arith, pow-suc 10 0))))
 bounded (suc j) (suc k) n h g =
     ap (λ (l : List ℕ). l ++ ((48 + n % 10) ∷ []))
     (same (ltb n 10) (digits j (n / 10)) (digits (suc k) (n / 10))
-    (λ e. let o = ltb_false n 10 e in bounded j k (n / 10) (omega arith) (omega (arith, pow-suc 10 (suc k)))))
+    (λ e. let o = ltb-false n 10 e in bounded j k (n / 10) (omega arith) (omega (arith, pow-suc 10 (suc k)))))
 
 pub in_ten_digits : (n : ℕ) → n < 10 ^ 10 → decimal n ≡ digits 10 n
 unfolding decimal
@@ -50,7 +50,7 @@ by_last P one more n = below (suc n) n (omega arith)
   where
     step : (k n : ℕ) → ((m : ℕ) → m < k → P m) → n < suc k → (t : Bool) → ltb n 10 ≡ t → P n
     step k n rest h true e = one n (ltb-true n 10 e)
-    step k n rest h false e = let o = ltb_false n 10 e in more n o (rest (n / 10) (omega arith))
+    step k n rest h false e = let o = ltb-false n 10 e in more n o (rest (n / 10) (omega arith))
 
     below : (k n : ℕ) → n < k → P n
     below zero n h = absurd (not-suc-le-zero h)
@@ -66,7 +66,7 @@ at_most (suc k) n h = by_size (at_most k (n / 10)) (ltb n 10) refl
     by_size rest true e = rw (one_digit n (ltb-true n 10 e)) (omega arith)
     by_size rest false e =
         let l = rest (omega (arith, pow-suc 10 (suc k))) in
-        rw (more_digits n (ltb_false n 10 e), length-append) (omega arith)
+        rw (more_digits n (ltb-false n 10 e), length-append) (omega arith)
 
 pub ten_digits : (n : ℕ) → n < 2 ^ 32 → length (decimal n) ≤ 10
 ten_digits n h = at_most 9 n (omega arith)

@@ -1,7 +1,7 @@
 -- Texts put one after another: where there is room for all of them, they are one text.
 -- Assumes nothing.
 use Rattle.std.specs.Prelude.{◌≡◌, refl, Bool, true, false, List, [], ◌++◌, ℕ, suc, ◌+◌, ◌^◌, ◌<◌, ◌≤◌, ltb, ℤ, pos, negsuc, length, take, drop}
-use Rattle.std.proofs.Common.{sym, ap, ◌∙◌, append_assoc, add-zero, add_assoc, arith, le-ltb, ltb_false, length-append, length-drop, length-take-le, take_at, drop-drop}
+use Rattle.std.proofs.Common.{sym, ap, ◌∙◌, append_assoc, add-zero, add_assoc, arith, le-ltb, ltb-false, length-append, length-drop, length-take-le, take_at, drop-drop}
 use Rattle.std.proofs.Math.Seq.{drop-append-add, paste-zero}
 use Rattle.std.specs.Int.Signed.{mag}
 use Rattle.answer.specs.Answer.{gives, refuse, ◌>>◌, bound, passed}
@@ -54,7 +54,7 @@ placed_length {p = At at} {xs = xs} {l = l} w = ap length w.bytes ∙ by_test (l
   where
     by_test : (t : Bool) → ltb (length l) (at + length xs) ≡ t → length (after l (with_text (gives at) xs l)) ≡ length l
     by_test true e = rw e
-    by_test false e = rw e (length_overlaid l xs at (ltb_false (length l) (at + length xs) e))
+    by_test false e = rw e (length_overlaid l xs at (ltb-false (length l) (at + length xs) e))
 
 pub end_within : {p : Put} {xs l l' : List ℕ} {r : Put} {n : ℕ} → Placed p xs l l' r → r ≡ At n → n ≤ length l'
 end_within {p} {xs} {l} {l'} {r} {n} w q =
@@ -63,7 +63,7 @@ end_within {p} {xs} {l} {l'} {r} {n} w q =
     let fits = passed 32 (ltb (length l) (room.value + length xs)) (gives room.value) room.after in
     let e : room.value ≡ place.value = (let g : gives room.value ≡ gives place.value = fits.after in cc) in
     let f : place.value + length xs ≡ n = (let g : gives (place.value + length xs) ≡ gives n = place.after in cc) in
-    omega (arith, ltb_false (length l) (room.value + length xs) fits.failed, placed_length w)
+    omega (arith, ltb-false (length l) (room.value + length xs) fits.failed, placed_length w)
 
 -- What several pieces come to, from the place p on: they stand there where there is room for all of them; and the bytes are no more and no fewer.
 pub record Joined (p : Put) (xs l l' : List ℕ) (r : Put) : Type 0 where

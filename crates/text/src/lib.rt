@@ -1,11 +1,13 @@
 // Text in lent bytes: names, numbers and lines are put one after another. Each call takes the place where the text goes, and answers the place after
 // it. Where there is no room for all of a text, nothing of it is put.
+#![tactic(auto)]
+
 ghost use Rattle.std.specs.Prelude.{◌≡◌, ◌+◌, ◌%◌, ◌≤◌, ltb, nat_abs, length, drop};
 ghost use Rattle.text.specs.Decimal.{decimal, signed};
 ghost use Rattle.text.specs.Text.{line_of, overlaid, Placed};
 
 // The place where text goes on. `NoRoom` is refusal 32, and what is put there is refused too.
-#[derive(Drop)]
+#[derive(Clone, Copy)]
 pub enum Put {
     At(usize),
     NoRoom,

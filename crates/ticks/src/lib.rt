@@ -6,7 +6,7 @@ ghost use Rattle.ticks.specs.Ticks.{spent_of, longest_of, has_wait, noted_of, me
 use startup::{Phase, Reading, Report, Startup};
 
 // The ticks of each wait, by its step: 0 before it is met, and for good where it is skipped or fails.
-#[derive(Drop)]
+#[derive(Clone, Copy)]
 pub struct Waits {
     pub at2: u32,
     pub at4: u32,
@@ -18,20 +18,20 @@ pub struct Waits {
     pub at27: u32,
 }
 
-#[derive(Drop)]
+#[derive(Clone, Copy)]
 pub struct Ticks {
     // The tick of the first reading of the wait whose turn it is, once one was unmet.
     pub first: u32,
     pub waits: Waits,
 }
 
-#[derive(Drop)]
+#[derive(Clone, Copy)]
 pub struct Ticked {
     pub startup: Startup,
     pub ticks: Ticks,
 }
 
-#[derive(Drop)]
+#[derive(Clone, Copy)]
 pub struct TickedStep {
     pub ticked: Ticked,
     pub report: Report,

@@ -9,27 +9,27 @@ use pll32::{Checked, Hse, Part, Setting, Source};
 use tree::{Buses, HseFrequency, Made, Output};
 
 // The two chips, which differ in a multiplier and a USB divisor.
-#[derive(Drop)]
+#[derive(Clone, Copy)]
 pub enum Chip {
     V1,
     L1,
 }
 
-#[derive(Drop)]
+#[derive(Clone, Copy)]
 pub enum PllPreDiv {
     Div1,
     Div2,
 }
 
 // The PLL, with its predivider and the code of its multiplier (`PllMul`).
-#[derive(Drop)]
+#[derive(Clone, Copy)]
 pub enum Pll {
     Absent,
     Present { prediv: PllPreDiv, mul: u8 },
 }
 
 // A configuration. `sys` and the prescalers are the codes of their fields.
-#[derive(Drop)]
+#[derive(Clone, Copy)]
 pub struct Config {
     pub hse: Hse,
     pub sys: u8,
@@ -41,7 +41,7 @@ pub struct Config {
 }
 
 // The register fields that the clocks depend on. PLLSRC set is HSE, PLLXTPRE set HSE by 2, the HSI predivider bit set HSI by 1.
-#[derive(Drop)]
+#[derive(Clone, Copy)]
 pub struct Fields {
     pub sws: u8,
     pub pllsrc: bool,
@@ -54,7 +54,7 @@ pub struct Fields {
 }
 
 // The fields that starting a configuration leaves, or a refusal number.
-#[derive(Drop)]
+#[derive(Clone, Copy)]
 pub enum Written {
     Is(Fields),
     Refused(u8),

@@ -11,7 +11,7 @@ use pll32::{Checked, Hse, Part, Setting, Source};
 use tree::{Buses, HseFrequency, Made, Output};
 
 // What feeds the PLL. PLL2 is not taken: asked for, it is refused.
-#[derive(Drop)]
+#[derive(Clone, Copy)]
 pub enum PllSource {
     Hsi,
     Hse,
@@ -19,28 +19,28 @@ pub enum PllSource {
 }
 
 // The PLL, with the codes of its predivider (`PllPreDiv`, the divisor less one) and of its multiplier (`PllMul`).
-#[derive(Drop)]
+#[derive(Clone, Copy)]
 pub enum Pll {
     Absent,
     Present { prediv: u8, mul: u8 },
 }
 
 // The USBHS PLL, with the code of its prescaler (`HsPllPrescaler`, the divisor less one).
-#[derive(Drop)]
+#[derive(Clone, Copy)]
 pub enum HsPll {
     Absent,
     Present { pre: u8 },
 }
 
 // PLL2 and PLL3. They are not taken, so nothing of them is kept but that they are asked for, which is refused.
-#[derive(Drop)]
+#[derive(Clone, Copy)]
 pub enum Pllx {
     Absent,
     Present,
 }
 
 // A configuration. `sys` and the prescalers are the codes of their fields.
-#[derive(Drop)]
+#[derive(Clone, Copy)]
 pub struct Config {
     pub hse: Hse,
     pub sys: u8,
@@ -55,7 +55,7 @@ pub struct Config {
 }
 
 // The register fields that the clocks depend on. PLLSRC set is HSE, PREDIV1SRC set PLL2, the HSI predivider bit set HSI by 1.
-#[derive(Drop)]
+#[derive(Clone, Copy)]
 pub struct Fields {
     pub sws: u8,
     pub pllsrc: bool,
@@ -69,7 +69,7 @@ pub struct Fields {
 }
 
 // The fields that starting a configuration leaves, or a refusal number.
-#[derive(Drop)]
+#[derive(Clone, Copy)]
 pub enum Written {
     Is(Fields),
     Refused(u8),

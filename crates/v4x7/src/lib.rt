@@ -13,27 +13,27 @@ use tree::{Buses, Clocks, HseFrequency, Made, Output};
 use v4x7_rules::{HSI_FREQUENCY, Ratio};
 
 // The crystal or the clock fed in from outside (`bypass`), with its frequency in Hz.
-#[derive(Drop)]
+#[derive(Clone, Copy)]
 pub enum Hse {
     Absent,
     Present { bypass: bool, freq: u32 },
 }
 
 // The main PLL, with the code of its multiplier (`PllMul`).
-#[derive(Drop)]
+#[derive(Clone, Copy)]
 pub enum Pll {
     Absent,
     Mul(u8),
 }
 
 // The USBHS PLL, with the code of its source (`HsPllSource`: 0 HSE, 1 HSI, 2 ETH).
-#[derive(Drop)]
+#[derive(Clone, Copy)]
 pub enum HsPll {
     Absent,
     From(u8),
 }
 
-#[derive(Drop)]
+#[derive(Clone, Copy)]
 pub enum AdcClockSource {
     Hclk,
     // USBHS PLL divided by 1 through 32, before the APB2 and ADC prescalers.
@@ -41,7 +41,7 @@ pub enum AdcClockSource {
 }
 
 // A configuration. Optional parts are enums; every other choice is the number that the Rust's enum has for it.
-#[derive(Drop)]
+#[derive(Clone, Copy)]
 pub struct Config {
     pub hse: Hse,
     pub sys: u8,
@@ -61,14 +61,14 @@ pub struct Config {
 }
 
 // The clock record of an accepted configuration: the six clocks and, apart, the ADC's frequency in Hz.
-#[derive(Drop)]
+#[derive(Clone, Copy)]
 pub struct ClockRecord {
     pub clocks: Clocks,
     pub adc: u32,
 }
 
 // The answer of the check: the clock record, or the first refusal in document 01's order.
-#[derive(Drop)]
+#[derive(Clone, Copy)]
 pub enum Checked {
     Accepted(ClockRecord),
     Refused(u8),

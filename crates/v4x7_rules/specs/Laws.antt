@@ -1,7 +1,7 @@
 -- Laws of the rules, which callers use in place of their text.
 -- Assumes nothing.
 use Rattle.std.specs.Prelude.{◌≡◌, refl, ◌||◌, List, [], ◌∷◌, map, ℕ, ◌+◌, ◌*◌, ◌<◌, leb, ltb}
-use Rattle.std.proofs.Common.{arith, leb-false, ltb_false}
+use Rattle.std.proofs.Common.{arith, leb-false, ltb-false}
 use Rattle.answer.specs.Answer.{gives, refuses}
 use Rattle.answer.specs.Each.{Each, each_gives, each_past, each_bind, each_at}
 use Rattle.answer.specs.Tools.{neither}
@@ -31,7 +31,7 @@ unfolding adc_from_usb_hs_of
 from_usbhs d ppre2 adcpre =
     each_bind (total d ppre2 adcpre) (λ t divides. each_past 14 (ltb d 1 || ltb 32 d) (λ e.
     let within = neither (ltb d 1) (ltb 32 d) e in
-    each_gives (divides (record { low = ltb_false d 1 within.0; high = omega (arith, ltb_false 32 d within.1) }))))
+    each_gives (divides (record { low = ltb-false d 1 within.0; high = omega (arith, ltb-false 32 d within.1) }))))
 
 from_hclk : (sys hpre ppre2 adcpre : ℕ) → Each (λ (x : ℕ × ℕ). Between 65536 x.1) (adc_from_hclk_of sys hpre ppre2 adcpre)
 unfolding adc_from_hclk_of

@@ -1,6 +1,8 @@
 // The frequency rules of CH32V407/CH32V467, as the check of a configuration and the decoder of the registers share them.
 //
 // Where a rule needs HSE, HSE must be there and in range. The check has tested the range before, the decoder tests it where HSE is used.
+#![tactic(auto)]
+
 ghost use Rattle.std.specs.Prelude.{◌≡◌, ◌≤◌, ◌<◌};
 ghost use Rattle.answer.specs.Said.{reply_says, outcome_says};
 ghost use Rattle.divider.specs.Frequency.{rate_says};
@@ -23,7 +25,7 @@ const PLL_MUL_X2: [u8; 32] = [
 ];
 
 // What the ADC divides: a source in Hz and its whole divisor, or a refusal number.
-#[derive(Drop)]
+#[derive(Clone, Copy)]
 pub enum Ratio {
     Of { source: u32, divisor: u32 },
     Refused(u8),

@@ -1,7 +1,7 @@
 use mathlib.Core.Bool.{true, false, not}
 use mathlib.Core.Path.{◌≡◌, ◌∙◌}
 use borrow.Author.Rules.{rules}
-use borrow.Author.Tests.{ltb_false}
+use borrow.Author.Tests.{ltb-false}
 use Rattle.answer.specs.Tools.{neither}
 use Rattle.v4x7.specs.declared.Checked.{Checked}
 use Rattle.v4x7.specs.Check.{checked_says}
@@ -48,4 +48,4 @@ step_spec =
     tie.close
     (tie.spec (search rules) (search rules) returns (search rules) (search rules) returns-2 (search rules) (search rules) (search rules)
     (search rules) (search rules) returns-3 (search rules) (search rules) returns-4
-    (λ c κs. ltb_false _ _ (neither (not c.before.before.listed.result) _ c.if2.false).1) returns-5)
+    (λ c κs. ltb-false _ _ (neither (not c.before.before.listed.result) _ c.if2.false).1) returns-5)

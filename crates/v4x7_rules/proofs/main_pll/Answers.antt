@@ -1,0 +1,52 @@
+use borrow.Author.Rules.{rules}
+use mathlib.Core.Path.{◌≡◌, sym}
+use mathlib.Core.Bool.{◌||◌}
+use native.Mathlib.Omega.{arith}
+use borrow.Author.Tests.{le-leb, lt-leb, ltb-false}
+use lib.Dec.{ltb}
+use Rattle.answer.specs.Answer.{gives, refuse, ◌>>◌, told}
+use Rattle.answer.specs.Tools.{neither}
+use Rattle.divider.specs.Frequency.{rate_says}
+use Rattle.tree.specs.Tree.{wide_says}
+use Rattle.v4x7_rules.specs.Rules.{main_pll_of}
+use Rattle.v4x7_rules.proofs.main_pll.Goals as goal
+use Rattle.v4x7_rules.proofs.main_pll.Goals.{After-product-output}
+
+-- what the definition leaves to do where the output is known
+from-product : (c : goal.After-product-output)
+    → let args = c.args in
+    let out = wide_says c.product-output.result in
+    main_pll_of args.hse args.source args.mul ≡ (do
+      refuse 5 (ltb out.hz 100000000 || ltb 400000000 out.hz)
+      gives out)
+unfolding main_pll_of
+from-product c =
+    simp (
+      lt-leb _ _ c.if-mul-ge32.false,
+      told rate_says c.main_pll_input-rate.ensures c.in-At.is,
+      sym c.product-output.ensures,
+    )
+
+--? cast-t15 : tie.Need-overflow-cast-t15
+--? cast-t15 c =
+--?     let out = c.before.before.before.before.product.result in
+--?     omega (arith, ltb-false 400000000 out.hz (neither (ltb out.hz 100000000) (ltb 400000000 out.hz) c.before.if2.false).1)
+
+pub returns-then-mul-ge32 : goal.returns-then-mul-ge32
+unfolding main_pll_of
+returns-then-mul-ge32 c = simp (le-leb _ _ c.if-mul-ge32.true)
+
+pub returns-in_default : goal.returns-in_default
+unfolding main_pll_of
+returns-in_default c =
+    simp (
+      lt-leb _ _ c.if-mul-ge32.false,
+      c.main_pll_input-rate.ensures,
+      told rate_says c.main_pll_input-rate.ensures c.in_default.is,
+    )
+
+pub returns-then-output : goal.returns-then-output
+returns-then-output c = simp (from-product (goal.at.returns-then-output c).After-product-output, c.if-output.true)
+
+pub returns : goal.returns
+returns c = simp (from-product (goal.at.returns c).After-product-output, c.if-output.false)
