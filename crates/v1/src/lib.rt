@@ -1,4 +1,6 @@
 // CH32V1 and CH32L1: the clock configuration and its check, the fields that starting it leaves, and their decoder.
+#![tactic(auto)]
+
 ghost use Rattle.std.specs.Prelude.{◌≡◌};
 ghost use Rattle.tree.specs.Tree.{buses_says, made_says};
 ghost use Rattle.pll32.specs.Pll.{checked_says};

@@ -1,4 +1,6 @@
 // CH32V30x: the clock configuration and its check, the fields that starting it leaves, and their decoder.
+#![tactic(auto)]
+
 ghost use Rattle.std.specs.Prelude.{◌≡◌};
 ghost use Rattle.answer.specs.Said.{outcome_says};
 ghost use Rattle.tree.specs.Tree.{buses_says, made_says};

@@ -14,14 +14,11 @@ pub returns-then-divisor-eq0 : goal.returns-then-divisor-eq0
 unfolding lowest_of
 returns-then-divisor-eq0 c = rw (eq-eqb _ _ c.if-divisor-eq0.true)
 
-pub gcd-common-requires : goal.gcd-common-requires
-gcd-common-requires c = tt
-
 pub nonzero_div-result : goal.nonzero_div-result
-nonzero_div-result c = positive
+nonzero_div-result c = positive c
 
 pub nonzero_div-result-2 : goal.nonzero_div-result-2
-nonzero_div-result-2 c = positive
+nonzero_div-result-2 c = positive c
 
 pub returns : goal.returns
 unfolding lowest_of

@@ -36,4 +36,4 @@ pub returns : goal.returns
 returns c =
     let args = c.args in
     given args.pclk args.rate _ _ c.if-rate-eq0.false c.nearest-n.ensures c.if-n.false
-    (to_z-of_z w32 _ (record { sfits = c.error-error.type-inv }) ∙ c.error-error.ensures)
+    (to_z-of_z w32 _ (record { sfits = c.error-error.type_inv }) ∙ c.error-error.ensures)

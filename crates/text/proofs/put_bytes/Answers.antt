@@ -14,12 +14,6 @@ room : (c : goal.Else-no_room)
     c.in-At.at + length args.text.now ≤ length args.out.now
 room c = ltb-false _ _ (sym c.no_room.ensures ∙ c.if-no_room.false)
 
-pub returns-in_default : goal.returns-in_default
-returns-in_default c = omega arith
-
-pub no_room-requires : goal.no_room-requires
-no_room-requires c = search rules
-
 pub returns-then-no_room : goal.returns-then-no_room
 returns-then-no_room c =
     let args = c.args in

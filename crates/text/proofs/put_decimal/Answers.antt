@@ -4,5 +4,5 @@ use Rattle.text.proofs.put_decimal.Goals as goal
 
 pub returns : goal.returns
 returns c =
-    let spell = c.before.before.before.before.before.before.before.spell in
-    rw (number_part spell.new.0 spell.result _ spell.ensures.0 spell.ensures.1) at c.put_bytes.ensures
+    let spelt = c.spell-first in
+    rw (number_part spelt.new.ten spelt.result _ spelt.ensures.ten_after spelt.ensures.n_value) at c.put_bytes.ensures

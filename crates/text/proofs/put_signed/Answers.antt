@@ -15,27 +15,21 @@ returns-then-z-ge0 c =
     rw (unsigned_text z (search rules) c.magnitude-n.ensures c.if-z-ge0.true)
     c.put_decimal.ensures
 
-pub returns-in_default : goal.returns-in_default
-returns-in_default c = omega arith
-
-pub spell-first-requires : goal.spell-first-requires
-spell-first-requires c = search rules
-
 pub returns-then-no_room : goal.returns-then-no_room
 returns-then-no_room c =
     let args = c.args in
     let text = minus_text args.z (search rules) c.magnitude-n.ensures c.if-z-ge0.false in
     rw text
     (refused c.in-At.is (45 ∷ decimal c.magnitude-n.result) args.out.now
-    (rw (minus_length c.spell-first.result c.magnitude-n.result c.spell-first.ensures.1) at (sym c.no_room.ensures ∙ c.if-no_room.true)))
+    (rw (minus_length c.spell-first.result c.magnitude-n.result c.spell-first.ensures.n_value) at (sym c.no_room.ensures ∙ c.if-no_room.true)))
 
 pub returns : goal.returns
 returns c =
     let args = c.args in
     let n = c.magnitude-n.result in
     let text = minus_text args.z (search rules) c.magnitude-n.ensures c.if-z-ge0.false in
-    let fits = rw (minus_length c.spell-first.result n c.spell-first.ensures.1) at (sym c.no_room.ensures ∙ c.if-no_room.false) in
-    let number = rw (number_part c.spell-first.new.0 c.spell-first.result n c.spell-first.ensures.0 c.spell-first.ensures.1) at c.put_bytes.ensures in
+    let fits = rw (minus_length c.spell-first.result n c.spell-first.ensures.n_value) at (sym c.no_room.ensures ∙ c.if-no_room.false) in
+    let number = rw (number_part c.spell-first.new.ten c.spell-first.result n c.spell-first.ensures.ten_after c.spell-first.ensures.n_value) at c.put_bytes.ensures in
     rw text
     (placed c.in-At.is (45 ∷ decimal n) args.out.now fits
-    ((then (one_piece at-minus.put-bytes.ensures) number).stands _ refl (ltb-false _ _ fits)))
+    ((then (one_piece c.put_bytes-digits.ensures) number).stands _ refl (ltb-false _ _ fits)))

@@ -43,9 +43,6 @@ module _ {n : ℕ} {ten : List ℕ} {first rest : ℕ} (s : Spelling n ten first
       let all : drop first (set ten first d) ≡ decimal n = put ∙ rw (s.spelt, one_digit rest h, ← e) in
       (all, rw (← all, length-drop, length-set) (omega arith))
 
---? same_length : tie.Need-same-length invariant-loop decreases-loop
---? same_length c = simp length-set (omega (arith, c.before.before.loop.invariant.long))
-
 pub loop-rest-init : goal.loop-rest-init
 loop-rest-init c = begun c.args.n c.args.ten.now (search rules) c.requires
 
@@ -56,4 +53,6 @@ pub loop-rest-preserved : goal.loop-rest-preserved
 loop-rest-preserved c = next c.loop-rest.invariant c.digit.result c.digit.ensures c.loop-rest-test.true
 
 pub returns : goal.returns
-returns c = ended c.loop-rest.invariant c.digit-2.result c.digit-2.ensures c.loop-rest-test.false
+returns c =
+    let both = ended c.loop-rest.invariant c.digit-2.result c.digit-2.ensures c.loop-rest-test.false in
+    record { ten_after = both.0; n_value = both.1 }

@@ -15,11 +15,13 @@ product : (c : goal.In-Is) → let args = c.args in args.first * c.in-Is.p ≤ 5
 product c =
     at_most c.requires (apb_given c.args.ppre2 (told reply_says c.apb-apb2.ensures c.in-Is.is)).high
 
---? mul-t11 : tie.Need-overflow-mul-t11
---? mul-t11 c =
---?     let at-if1 = c.before.before.before.before in
---?     let own : 2 * (at-if1.before.args.adcpre + 1) ≤ 8 = omega (arith, at-if1.if1.false) in
---?     omega (arith, at_most (product c) own)
+pub overflow_mul-result : goal.overflow_mul-result
+overflow_mul-result c = omega (arith, product c)
+
+pub overflow_mul-result-3 : goal.overflow_mul-result-3
+overflow_mul-result-3 c =
+    let own : 2 * (c.args.adcpre + 1) ≤ 8 = omega (arith, c.if-adcpre-ge4.false) in
+    omega (arith, at_most (product c) own)
 
 pub returns-then-adcpre-ge4 : goal.returns-then-adcpre-ge4
 unfolding total_of
