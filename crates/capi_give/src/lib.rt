@@ -1,5 +1,7 @@
 // Answers given through memory that a host lends: the record at its start, the rest as it was, and nothing touched after a refusal.
 // And HSE as a host hands it to a decoder.
+#![tactic(auto)]
+
 ghost use Rattle.std.specs.Prelude.{◌≡◌, ◌++◌, ◌≤◌, length, drop};
 ghost use Rattle.answer.specs.Answer.{gives};
 ghost use Rattle.answer.specs.Said.{reply_says};

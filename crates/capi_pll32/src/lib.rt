@@ -1,4 +1,6 @@
 // What the calls of CH32V1, CH32L1 and CH32V30x for C share: HSE in a record, and the answer of a check.
+#![tactic(auto)]
+
 ghost use Rattle.std.specs.Prelude.{◌≡◌};
 ghost use Rattle.pll32.specs.Pll.{checked_says};
 ghost use Rattle.capi_give.specs.Given.{sevenfold_says};

@@ -1,4 +1,6 @@
 // CH32V407/CH32V467: the clocks that the registers say, and the ADC and RNG queries.
+#![tactic(auto)]
+
 ghost use Rattle.std.specs.Prelude.{◌≡◌};
 ghost use Rattle.answer.specs.Said.{outcome_says};
 ghost use Rattle.divider.specs.Frequency.{rate_says};

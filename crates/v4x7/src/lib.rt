@@ -1,4 +1,6 @@
 // CH32V407/CH32V467: the clock configuration and its check.
+#![tactic(auto)]
+
 ghost use Rattle.std.specs.Prelude.{◌≡◌};
 ghost use Rattle.answer.specs.Said.{reply_says, outcome_says};
 ghost use Rattle.divider.specs.Facts.{Between};

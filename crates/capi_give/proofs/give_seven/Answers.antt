@@ -1,0 +1,14 @@
+use mathlib.Core.Path.{refl}
+use borrow.Author.Rules.{rules}
+use Rattle.capi_give.specs.Giving.{short, refused, passed_on}
+use Rattle.capi_give.proofs.give_seven.Goals as goal
+
+pub returns-then-out-lt-CHECK_WORDS : goal.returns-then-out-lt-CHECK_WORDS
+returns-then-out-lt-CHECK_WORDS c = short _ _ _ c.if-out-lt-CHECK_WORDS.true
+
+pub returns-in-Refused : goal.returns-in-Refused
+returns-in-Refused c = refused _ _ _ _ c.if-out-lt-CHECK_WORDS.false (rw c.in-Refused.is refl)
+
+pub returns-in-Are : goal.returns-in-Are
+returns-in-Are c =
+    passed_on _ _ _ _ _ _ refl (rw c.in-Are.is refl) c.give.ensures
