@@ -1,4 +1,6 @@
 // CH32H4 for C: the clocks, each prescaler and the PLL's multipliers.
+#![tactic(auto)]
+
 ghost use Rattle.std.specs.Prelude.{◌≡◌};
 ghost use Rattle.answer.specs.Answer.{gives};
 ghost use Rattle.answer.specs.Said.{reply_says};

@@ -1,4 +1,6 @@
 // The serial divisor for C.
+#![tactic(auto)]
+
 ghost use Rattle.serial.specs.Serial.{divisor_of};
 ghost use Rattle.capi_serial.specs.Calls.{GivenSerial};
 

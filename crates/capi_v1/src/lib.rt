@@ -1,4 +1,6 @@
 // CH32V1 and CH32L1 for C: the check, the decoder, and the fields that starting a configuration leaves.
+#![tactic(auto)]
+
 ghost use Rattle.std.specs.Prelude.{◌≡◌, true, length};
 ghost use Rattle.pll32.specs.Pll.{checked_says};
 ghost use Rattle.tree.specs.Tree.{buses_says};

@@ -6,10 +6,10 @@ use Rattle.divider.specs.Frequency.{rate_says}
 use Rattle.tree.specs.Tree.{buses_says}
 use Rattle.v4x7.specs.Check.{record_of, check_of}
 use Rattle.v4x7.proofs.Config.clocks.Goals as goal
-use Rattle.v4x7.proofs.Config.clocks.Goals.{In-At-2}
+use Rattle.v4x7.proofs.Config.clocks.Goals.{In-At}
 
 -- what the definition leaves to do where the system clock is known
-from-system : (c : goal.In-At-2)
+from-system : (c : goal.In-At)
     → let self = c.args.self in
     check_of self ≡ record_of c.in-At.sys self
 unfolding check_of
@@ -38,7 +38,7 @@ returns-in_default c =
 pub returns-in_default-sampled : goal.returns-in_default-sampled
 returns-in_default-sampled c =
     rw (
-      from-system (goal.at.returns-in_default-sampled c).In-At-2,
+      from-system (goal.at.returns-in_default-sampled c).In-At,
       told buses_says c.bus_clocks.ensures c.in-Run.is,
       c.refusal-in_default-sampled.ensures,
       c.in_default-sampled.is,
@@ -48,14 +48,14 @@ returns-in_default-sampled c =
 pub returns-in-Refused : goal.returns-in-Refused
 returns-in-Refused c =
     rw (
-      from-system (goal.at.returns-in-Refused c).In-At-2,
+      from-system (goal.at.returns-in-Refused c).In-At,
       told buses_says c.bus_clocks.ensures c.in-Refused.is,
     )
 
 pub returns-in-Is : goal.returns-in-Is
 returns-in-Is c =
     rw (
-      from-system (goal.at.returns-in-Is c).In-At-2,
+      from-system (goal.at.returns-in-Is c).In-At,
       told buses_says c.bus_clocks.ensures c.in-Run.is,
       told reply_says c.adc-sampled.ensures c.in-Is.is,
     )

@@ -1,0 +1,40 @@
+use mathlib.Core.Path.{◌≡◌, sym}
+use mathlib.Core.Bool.{false, not, ◌||◌}
+use borrow.Author.Tests.{not-false}
+use borrow.Author.Rules.{rules}
+use Rattle.answer.specs.Tools.{neither}
+use Rattle.capi_v1.specs.Calls.{init_read}
+use Rattle.capi_v1.proofs.init_fields.Goals as goal
+use Rattle.capi_v1.proofs.init_fields.Goals.{Else-is_config-is_fields}
+
+-- both are records
+records : (c : goal.Else-is_config-is_fields) → (not c.is_config.result ≡ false) × (not c.is_fields.result ≡ false)
+records c =
+    let a = not c.is_config.result in
+    let b = not c.is_fields.result in
+    neither a b (neither (a || b) _ c.if-is_config-is_fields.false).0
+
+pub returns-then-is_config-is_fields : goal.returns-then-is_config-is_fields
+unfolding init_read
+returns-then-is_config-is_fields c = rw (sym c.is_config.ensures.0, sym c.is_fields.ensures.0, c.if-is_config-is_fields.true)
+
+pub config_of-requires : goal.config_of-requires
+unfolding init_read
+config_of-requires c = c.is_config.ensures.1 (not-false _ (records (goal.at.config_of-requires c).Else-is_config-is_fields).0)
+
+pub fields_in-requires : goal.fields_in-requires
+unfolding init_read
+fields_in-requires c = c.is_fields.ensures.1 (not-false _ (records (goal.at.fields_in-requires c).Else-is_config-is_fields).1)
+
+pub returns : goal.returns
+unfolding init_read
+returns c =
+    rw (
+      sym c.is_config.ensures.0,
+      sym c.is_fields.ensures.0,
+      c.if-is_config-is_fields.false,
+      sym c.chip.ensures,
+      sym c.config_of.ensures,
+      sym c.fields_in.ensures,
+    )
+    c.init_fields.ensures
