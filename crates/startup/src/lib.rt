@@ -1,5 +1,7 @@
 // The stepwise startup of the V4x7 clocks. A host starts it with a configuration and the fields as they are, then calls `step` with a reading
 // each time, writes the fields that come back to the chip, and goes on until the report says that the startup is running, failed or refused.
+#![tactic(auto)]
+
 mod steps;
 
 ghost use Rattle.std.specs.Prelude.{◌≡◌, cond, ltb, ℕ, ◌+◌, ◌≤◌, ◌<◌};

@@ -1,0 +1,5 @@
+use borrow.Author.Rules.{rules}
+use Rattle.profile.proofs.hspll_of.Goals as goal
+
+pub returns-then-present : goal.returns-then-present
+returns-then-present c = rw c.if-present.true

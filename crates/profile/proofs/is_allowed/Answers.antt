@@ -1,0 +1,7 @@
+use Rattle.profile.specs.Profile.{tests}
+use borrow.Author.Rules.{rules}
+use Rattle.profile.proofs.is_allowed.Goals as goal
+
+pub returns : goal.returns
+unfolding tests
+returns c = rw c.number-hz.ensures

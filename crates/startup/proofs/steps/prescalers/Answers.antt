@@ -1,0 +1,5 @@
+use borrow.Author.Rules.{rules}
+use Rattle.startup.proofs.steps.prescalers.Goals as goal
+
+pub returns : goal.returns
+returns c = simp c.from_usbhs-usbhs.ensures
