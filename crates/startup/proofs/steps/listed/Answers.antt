@@ -8,10 +8,10 @@ use Rattle.v4x7.specs.Check.{has_hse, has_usb_hs, has_main}
 use Rattle.startup.specs.Steps.{listed_of}
 use Rattle.startup.proofs.Shape.{within, always}
 use Rattle.startup.proofs.steps.listed.Goals as goal
-use Rattle.startup.proofs.steps.listed.Goals.{Start}
+use Rattle.startup.proofs.steps.listed.Goals.{Start, then-step-lt8, else-step-lt19}
 
 -- a step is listed where its part is there
-abbrev Part : tie.Start → Bool → ℕ → Type 0
+abbrev Part : goal.Start → Bool → ℕ → Type 0
 Part s there k = there ≡ listed_of s.args.config k
 
 pub returns-in-24 : goal.returns-in-24
@@ -45,5 +45,5 @@ pub returns-in_default : goal.returns-in_default
 returns-in_default c =
     let args = c.args in
     let rest = c.in_default-1.rest in
-    let outside : (args.step < 8) ⊎ (18 < args.step) = ⊎_elim (λ w. inl (omega arith)) (λ w. inr (omega arith)) c.in_default.branch in
+    let outside : (args.step < 8) ⊎ (18 < args.step) = elim c.in_default.branch [ then-step-lt8 w ↦ inl (omega arith) | else-step-lt19 w ↦ inr (omega arith) ] in
     always args.config args.step outside rest.0.1 rest.1

@@ -9,7 +9,7 @@ use Rattle.startup.proofs.Shape.{not_listed}
 use Rattle.startup.proofs.steps.perform.Goals as goal
 use Rattle.startup.proofs.steps.perform.Goals.{Start}
 
-abbrev workAt : tie.Start → ℕ → Work
+abbrev workAt : goal.Start → ℕ → Work
 workAt s n = work_of s.args.config s.args.promised n s.args.fields s.args.seen
 
 -- the arm that names n, at a step that is n
@@ -132,4 +132,4 @@ returns-in-28 c = ap Compares c.agrees.ensures ∙ arm (goal.at.returns-in-28 c)
 pub returns-in_default : goal.returns-in_default
 unfolding work_of
 returns-in_default c = let args = c.args in
-    not_listed args.config args.promised args.fields args.seen args.step c.in_default.in_default-own.rest
+    not_listed args.config args.promised args.fields args.seen args.step c.in_default.rest

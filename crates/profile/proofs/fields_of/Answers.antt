@@ -1,4 +1,3 @@
--- `profile::fields_of` meets its contract: each part's fields are what its call ensures. Assumes nothing.
 use mathlib.Core.Path.{◌≡◌}
 use mathlib.Core.List.{List, [], ◌∷◌}
 use Prim.Native.Nat.{ℕ}
@@ -7,8 +6,7 @@ use mir.Val.{bool_byte}
 use Rattle.v4x7.specs.declared.Config.{Config}
 use Rattle.profile.specs.Profile.{hse_fields, pll_present, pll_multiplier, hspll_present, hspll_source, adc_from_usb_hs, adc_divisor, rest_of, fields_of}
 use borrow.Author.Rules.{rules}
-use Rattle.profile.proofs.fields_of.Statement.{statement}
-use Rattle.profile.proofs.fields_of.Tie as tie
+use Rattle.profile.proofs.fields_of.Goals as goal
 
 module _ (c : Config) (h p u a : List ℕ) where
   listed : h ≡ hse_fields c.hse → p ≡ pll_present c.pll ∷ pll_multiplier c.pll ∷ []
@@ -21,11 +19,6 @@ module _ (c : Config) (h p u a : List ℕ) where
   unfolding rest_of
   listed e f g i = rw (e, f, g, i)
 
-returns : tie.Need-returns
-returns c =
-    let s = c.before.before.before.before in
-    listed s.before.args.config _ _ _ _ s.hse-fields.ensures c.before.before.before.pll-fields.ensures
-    c.before.before.hspll-fields.ensures c.before.adc-fields.ensures
-
-pub fields-of-spec : {M : Type 1} → statement M
-fields-of-spec = tie.close (search (tie.spec, rules, returns))
+-- each part's fields are what its call ensures
+pub returns : goal.returns
+returns c = listed c.args.config _ _ _ _ c.hse_fields-h.ensures c.pll_fields-p.ensures c.hspll_fields-u.ensures c.adc_fields-a.ensures
