@@ -8,7 +8,7 @@ use Rattle.v4x7.specs.Check.{has_hse, has_usb_hs, has_main}
 use Rattle.startup.specs.Steps.{listed_of}
 use Rattle.startup.proofs.Shape.{within, always}
 use Rattle.startup.proofs.steps.listed.Goals as goal
-use Rattle.startup.proofs.steps.listed.Goals.{Start, then-step-lt8, else-step-lt19}
+use Rattle.startup.proofs.steps.listed.Goals.{Start, in_default-via-then-step-lt8, in_default-via-else-step-lt8+else-step-lt11+else-step-lt13+else-step-lt16+else-step-lt19}
 
 -- a step is listed where its part is there
 abbrev Part : goal.Start → Bool → ℕ → Type 0
@@ -44,6 +44,9 @@ returns-in-16-to-18 c = c.has_pll.ensures ∙
 pub returns-in_default : goal.returns-in_default
 returns-in_default c =
     let args = c.args in
-    let rest = c.in_default-1.rest in
-    let outside : (args.step < 8) ⊎ (18 < args.step) = elim c.in_default.branch [ then-step-lt8 w ↦ inl (omega arith) | else-step-lt19 w ↦ inr (omega arith) ] in
-    always args.config args.step outside rest.0.1 rest.1
+    let outside : (args.step < 8) ⊎ (18 < args.step) =
+      elim c.in_default.branch [
+        | in_default-via-then-step-lt8 w ↦ inl (omega arith)
+        | in_default-via-else-step-lt8+else-step-lt11+else-step-lt13+else-step-lt16+else-step-lt19 w ↦ inr (omega arith)
+      ] in
+    always args.config args.step outside (search rules) (search rules)

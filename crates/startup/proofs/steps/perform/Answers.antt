@@ -132,4 +132,4 @@ returns-in-28 c = ap Compares c.agrees.ensures ∙ arm (goal.at.returns-in-28 c)
 pub returns-in_default : goal.returns-in_default
 unfolding work_of
 returns-in_default c = let args = c.args in
-    not_listed args.config args.promised args.fields args.seen args.step c.in_default.rest
+    not_listed args.config args.promised args.fields args.seen args.step c.in_default.in_default-own.rest
