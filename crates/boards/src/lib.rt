@@ -1,4 +1,6 @@
 // A tray of boards at once: profiles back to back, and for each the 32 bytes that say what its check says.
+#![tactic(auto)]
+
 ghost use Rattle.std.specs.Prelude.{◌≡◌, ◌+◌, ◌≤◌, length};
 ghost use Rattle.std.proofs.lemmas.List.Edits.{sets};
 ghost use Rattle.v4x7.specs.Check.{checked_says};

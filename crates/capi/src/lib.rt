@@ -1,6 +1,8 @@
 // The clocks of CH32V4x7 for C and Rust: the check of a profile, the decoder, the two queries, and what the host of a startup owes and may count on.
 // Records come as bytes, frequencies go as words.
 // Every call answers by number: 0, or document 01's refusal, and then nothing that was lent is touched.
+#![tactic(auto)]
+
 ghost use Rattle.std.specs.Prelude.{◌≡◌};
 ghost use Rattle.answer.specs.Said.{reply_says};
 ghost use Rattle.capi_give.specs.Given.{Given, GivenOne, six_words, seven_words, sevenfold_says, two_words, twofold_says};

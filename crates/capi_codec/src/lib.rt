@@ -1,5 +1,7 @@
 // Profiles and images for C and Rust, their fields one a byte: a host takes a record apart, or makes one. The fields stand in document 01's order,
 // the filling last; HSE's frequency is four bytes, the most significant first.
+#![tactic(auto)]
+
 ghost use Rattle.capi_give.specs.Given.{Given};
 ghost use Rattle.capi_codec.specs.Codec.{profile_fields, profile_from, image_fields, image_from};
 

@@ -1,5 +1,7 @@
 // A startup with the ticks of its waits. Each call hands in a free-running 32-bit tick with its reading. For each wait that is met, the ticks from its
 // first reading to the met one are kept, modulo 2^32. Ticks change no other answer.
+#![tactic(auto)]
+
 ghost use Rattle.std.specs.Prelude.{◌≡◌, max, if◌then◌else◌};
 ghost use Rattle.ticks.specs.Ticks.{spent_of, longest_of, has_wait, noted_of, met_of, meets_wait, after_of, begun_with, is_over, ticked_of};
 

@@ -1,0 +1,13 @@
+use borrow.Author.Rules.{rules}
+use Rattle.capi.specs.Calls.{adc_read}
+use Rattle.image.specs.Image.{read_image_says}
+use Rattle.answer.specs.Answer.{told}
+use Rattle.capi.proofs.adc.Goals as goal
+
+pub returns-in-Refused : goal.returns-in-Refused
+unfolding adc_read
+returns-in-Refused c = simp (told read_image_says c.read_image.ensures c.in-Refused.is)
+
+pub returns-in-Image : goal.returns-in-Image
+unfolding adc_read
+returns-in-Image c = simp (told read_image_says c.read_image.ensures c.in-Image.is) c.adc_frequency.ensures

@@ -1,0 +1,6 @@
+use mathlib.Core.Path.{sym}
+use borrow.Author.Rules.{rules}
+use Rattle.capi.proofs.wontabeli_check.Goals as goal
+
+pub returns : goal.returns
+returns c = rw (sym c.check.ensures) c.give_seven.ensures

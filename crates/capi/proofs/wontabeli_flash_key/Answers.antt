@@ -1,0 +1,6 @@
+use mathlib.Core.Path.{sym}
+use borrow.Author.Rules.{rules}
+use Rattle.capi.proofs.wontabeli_flash_key.Goals as goal
+
+pub returns : goal.returns
+returns c = rw (sym c.key.ensures) c.give_two.ensures
