@@ -6,14 +6,9 @@ use lib.ListN.{length}
 use Rattle.layout.proofs.Filling.{numbers_put, numbers_length}
 use Rattle.boards.proofs.put_record.Goals as goal
 
---? same_length : tie.Need-same-length
---? same_length c =
---?     let args = c.before.before.before.before.before.before.args in
---?     ap length c.before.before.put-numbers.ensures ∙ numbers_length args.out.now args.t3 args.at
-
 pub returns : goal.returns
 returns c =
     let args = c.args in
-    let size : length args.t3 ≡ 8 = search rules in
-    let room : args.at + 4 * length args.t3 ≤ length args.out.now = omega arith in
-    c.put_numbers.ensures ∙ numbers_put args.out.now args.t3 args.at room
+    let size : length args.xs ≡ 8 = search rules in
+    let room : args.at + 4 * length args.xs ≤ length args.out.now = omega arith in
+    c.put_numbers.ensures ∙ numbers_put args.out.now args.xs args.at room

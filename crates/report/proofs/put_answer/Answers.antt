@@ -6,18 +6,15 @@ use Rattle.text.specs.Pieces.{one_piece, join, line_short}
 use Rattle.report.proofs.Showing.{accepted_text, refused_text}
 use Rattle.report.proofs.put_answer.Goals as goal
 
---? enum_told : tie.Need-enum-told
---? enum_told c = search rules
-
 pub returns-in_default : goal.returns-in_default
 returns-in_default c =
-    let short = line_short (ascii "c.refused-n") c.refused-n.result (search rules) in
+    let short = line_short (ascii "refused") c.refused-n.result (search rules) in
     rw (refused_text _ _ c.args.ports.now c.in_default.is c.refused-n.ensures)
-    (one_piece c.put_line.ensures, omega arith)
+    (record { joined = one_piece c.put_line.ensures; ports_bound = omega arith })
 
 pub returns : goal.returns
 returns c =
     let seven = c.put_clocks-seven.ensures in
     let ports = c.put_ports.ensures in
     rw (accepted_text _ c.args.ports.now c.in-Accepted.is)
-    (join seven.0 ports.0, rw length-append (omega (arith, seven.1, ports.1)))
+    (record { joined = join seven.joined ports.joined; ports_bound = rw length-append (omega (arith, seven.adc_len_bound, ports.ports_bound)) })

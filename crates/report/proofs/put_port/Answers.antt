@@ -34,7 +34,7 @@ set_short b e h k = simp length-append (omega (arith, ten_digits b h, signed_sho
 pub returns-in-Refused : goal.returns-in-Refused
 returns-in-Refused c =
     let short = line_short (ascii "refused") c.in-Refused.n (search rules) in
-    rw (refused_line _ c.in-Refused.is) (one_piece c.put_line.ensures, omega arith)
+    rw (refused_line _ c.in-Refused.is) (record { joined = one_piece c.put_line.ensures; port_len_bound = omega arith })
 
 pub returns-in-Set : goal.returns-in-Set
 returns-in-Set c =
@@ -42,12 +42,12 @@ returns-in-Set c =
     let told = c.in-Set.known_told-in-Set-1-own.given in
     let fits : SFits w32 error = record { sfits = search told } in
     let signed = rw (to_z-of_z w32 error fits) at c.put_signed-d.ensures in
-    rw (set_line _ c.in-Set.is) (
-      then (then (then (then
+    rw (set_line _ c.in-Set.is) (record {
+      joined = then (then (then (then
           (one_piece c.put_bytes-a.ensures)
           c.put_decimal-b.ensures)
           c.put_bytes-c.ensures)
           signed)
-          c.put_bytes.ensures,
-      set_short c.in-Set.brr error (search rules) fits.sfits,
-    )
+          c.put_bytes.ensures;
+      port_len_bound = set_short c.in-Set.brr error (search rules) fits.sfits;
+    })

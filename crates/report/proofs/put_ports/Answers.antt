@@ -20,8 +20,10 @@ pub loop-at-preserved : goal.loop-at-preserved
 loop-at-preserved c =
     let args = c.args in
     lined args.clocks args.ports.now c.loop-at.at (five-left (goal.at.loop-at-preserved c).In-loop-at) c.loop-at.invariant
-    (rw (c.port_divisor-port.ensures, c.number-rate.ensures) at c.put_port-next.ensures.0)
-    (rw (c.port_divisor-port.ensures, c.number-rate.ensures) at c.put_port-next.ensures.1)
+    (rw (c.port_divisor-port.ensures, c.number-rate.ensures) at c.put_port-next.ensures.joined)
+    (rw (c.port_divisor-port.ensures, c.number-rate.ensures) at c.put_port-next.ensures.port_len_bound)
 
 pub returns : goal.returns
-returns c = ended c.loop-at.invariant c.loop-at-test.false
+returns c =
+    let both = ended c.loop-at.invariant c.loop-at-test.false in
+    record { joined = both.0; ports_bound = both.1 }

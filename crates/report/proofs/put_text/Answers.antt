@@ -12,7 +12,7 @@ use Rattle.report.specs.Report.{sized}
 use Rattle.report.specs.Laws.{other_length}
 use Rattle.report.proofs.Showing.{its_profile, has_profile, few_ports}
 use Rattle.report.proofs.put_text.Goals as goal
-use Rattle.report.proofs.put_text.Goals.{After-not_sized, Else-not_sized}
+use Rattle.report.proofs.put_text.Goals.{Else-not_sized}
 
 -- an input that has its length holds a profile
 profile : (c : goal.Else-not_sized) → 10 ≤ length c.args.input.now
@@ -27,20 +27,20 @@ returns-then-not_sized c =
     let short = line_short (ascii "refused") 29 (search rules) in
     let s = c.args.input.now in
     rw (other_length s (not-true (sized (length s)) (sym c.not_sized.ensures ∙ c.if-not_sized.true)))
-    (one_piece c.put_line.ensures, omega arith)
+    (record { joined = one_piece c.put_line.ensures; input_len_bound = omega arith })
 
 pub slice_bounds-check_profile-end : goal.slice_bounds-check_profile-end
-slice_bounds-check_profile-end c = sym (length-take-le 10 c.before.before.before.before.before.args.input.now (profile (goal.at.slice_bounds-check_profile-end c).After-not_sized))
+slice_bounds-check_profile-end c = sym (length-take-le 10 c.args.input.now (profile (goal.at.slice_bounds-check_profile-end c).Else-not_sized))
 
 pub slice_bounds-put_answer-count : goal.slice_bounds-put_answer-count
-slice_bounds-put_answer-count c = profile (goal.at.slice_bounds-put_answer-count c).After-not_sized
+slice_bounds-put_answer-count c = profile (goal.at.slice_bounds-put_answer-count c).Else-not_sized
 
 pub slice_bounds-put_answer-start : goal.slice_bounds-put_answer-start
-slice_bounds-put_answer-start c = profile (goal.at.slice_bounds-put_answer-start c).After-not_sized
+slice_bounds-put_answer-start c = profile (goal.at.slice_bounds-put_answer-start c).Else-not_sized
 
 pub returns : goal.returns
 returns c =
-    let s = at_test.before.before.before.before.args.input.now in
-    let t = sym at_test.before.not-sized.ensures ∙ at_test.if1.false in
+    let s = c.args.input.now in
+    let t = sym c.not_sized.ensures ∙ c.if-not_sized.false in
     let put = rw (c.check_profile-checked.ensures, rest s) at c.put_answer.ensures in
-    rw (its_profile s t) (put.0, omega (arith, put.1, few_ports s t, length-drop 10 s))
+    rw (its_profile s t) (record { joined = put.joined; input_len_bound = omega (arith, put.ports_bound, few_ports s t, length-drop 10 s) })
