@@ -1,4 +1,6 @@
 // A startup kept in one place and advanced where it lies, with the same answers as handing it back by value.
+#![tactic(auto)]
+
 ghost use Rattle.std.specs.Prelude.{◌≡◌};
 ghost use Rattle.startup.specs.Call.{start_of};
 ghost use Rattle.place.specs.Place.{leaves_as_it_was, stepped_in, started_in};

@@ -1,2 +1,0 @@
-mod ByValue
-mod Walk
