@@ -1,4 +1,6 @@
 // A tray of boards for C.
+#![tactic(auto)]
+
 ghost use Rattle.std.specs.Prelude.{◌*◌};
 ghost use Rattle.boards.specs.Tray.{boards_in, tray_of};
 ghost use Rattle.capi_give.specs.Given.{Given};

@@ -1,4 +1,6 @@
 // The V4x7 startup for C and Rust: a startup with its ticks, which the host keeps in 72 lent bytes.
+#![tactic(auto)]
+
 mod kept;
 
 ghost use Rattle.std.specs.Prelude.{◌≡◌, ◌≤◌, length};

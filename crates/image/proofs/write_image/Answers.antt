@@ -10,11 +10,6 @@ use Rattle.image.specs.Width.{wide}
 use Rattle.image.proofs.Words.{written}
 use Rattle.image.proofs.write_image.Goals as goal
 
---? same_length : tie.Need-same-length
---? same_length c =
---?     let at-args = c.before.before.before.before.before.before.before.before.before.before.before in
---?     ap length c.before.before.put-numbers.ensures ∙ numbers_length at-args.args.out.now _ 0
-
 pub returns-then-out-lt8 : goal.returns-then-out-lt8
 returns-then-out-lt8 c = let args = c.args in writing.short 8 (image_bytes args.f) args.out.now c.if-out-lt8.true
 

@@ -19,9 +19,6 @@ bounded c =
     let f : m.result ≤ length c.args.ws.now = rw m.ensures.0 (up_to_below _ _) in
     (c.up_to-n.ensures.1, (omega arith, omega arith))
 
---? cast-w : tie.Need-overflow-cast-w invariant-loop decreases-loop
---? cast-w c = omega (arith, c.shared-slice-known3.given c.before.before.loop.i)
-
 pub loop-i-init : goal.loop-i-init
 loop-i-init c = none_loaded _ _ _ _
 

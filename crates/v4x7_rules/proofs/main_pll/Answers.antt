@@ -27,11 +27,6 @@ from-product c =
       sym c.product-output.ensures,
     )
 
---? cast-t15 : tie.Need-overflow-cast-t15
---? cast-t15 c =
---?     let out = c.before.before.before.before.product.result in
---?     omega (arith, ltb-false 400000000 out.hz (neither (ltb out.hz 100000000) (ltb 400000000 out.hz) c.before.if2.false).1)
-
 pub returns-then-mul-ge32 : goal.returns-then-mul-ge32
 unfolding main_pll_of
 returns-then-mul-ge32 c = simp (le-leb _ _ c.if-mul-ge32.true)

@@ -1,0 +1,8 @@
+use mathlib.Core.Path.{refl}
+use borrow.Author.Rules.{rules}
+use Rattle.capi_startup.specs.Calls.{reading_of}
+use Rattle.capi_startup.proofs.reading.Goals as goal
+
+pub returns : goal.returns
+unfolding reading_of
+returns c = refl
