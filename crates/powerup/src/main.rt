@@ -1,11 +1,14 @@
 // Runs whole startups against a simulated chip, and says of each how it ended. A case on standard input is a profile of ten bytes and the
 // step that is to fail (0: none). `oracle/record` makes the cases and, from the Rust, what is to be written.
+#![tactic(auto)]
+
 ghost use Rattle.std.specs.Prelude.{◌<◌};
 
 use answer::Reply;
 use image::{Fields, ReadImage, Seen};
 use profile::ReadProfile;
 use startup::{Phase, Reading, Report, Started, Startup};
+use std::io::Read;
 
 // A startup over registers as a reset leaves them, for this program: all fields zero.
 fn started(config: v4x7::Config) -> Started {
@@ -87,39 +90,49 @@ fn run(begun: Startup, failing: u8) -> Startup {
     s
 }
 
-fn print(text: &[u8]) {
-    io::write_all(1, text);
+// A write that fails changes nothing else: the next one is tried all the same.
+fn print(rt: &impl Print, text: &[u8]) {
+    let _ = rt.write_all(text);
 }
 
-fn print_ending(step: u8, used: u32) {
-    print(b" step ");
-    io::print_decimal(1, step as u64);
-    print(b" readings ");
-    io::print_decimal(1, used as u64);
+fn print_decimal(rt: &impl Print, n: u64) {
+    let _ = print!(rt; "{n}");
 }
 
-fn print_report(report: Report) {
+// Eight digits, with zeros in front.
+fn print_hex(rt: &impl Print, n: u64) {
+    let _ = print!(rt; "{n:08x}");
+}
+
+fn print_ending(rt: &impl Print, step: u8, used: u32) {
+    print(rt, b" step ");
+    print_decimal(rt, step as u64);
+    print(rt, b" readings ");
+    print_decimal(rt, used as u64);
+}
+
+fn print_report(rt: &impl Print, report: Report) {
     match report {
         Report::Running { step, used } => {
-            print(b"running");
-            print_ending(step, used);
+            print(rt, b"running");
+            print_ending(rt, step, used);
         }
         Report::Failed { number, step, used } => {
-            print(b"refused ");
-            io::print_decimal(1, number as u64);
-            print_ending(step, used);
+            print(rt, b"refused ");
+            print_decimal(rt, number as u64);
+            print_ending(rt, step, used);
         }
         Report::Refused(n) => {
-            print(b"refused ");
-            io::print_decimal(1, n as u64);
+            print(rt, b"refused ");
+            print_decimal(rt, n as u64);
         }
         Report::Worked { step, used } => {
-            print(b"not over");
-            print_ending(step, used);
+            print(rt, b"not over");
+            print_ending(rt, step, used);
         }
         Report::Waiting { step, used } => {
-            print(b"not over");
-            print_ending(step, used);
+            print(rt, b"not over");
+            print_ending(rt, step, used);
         }
     }
 }
@@ -135,20 +148,20 @@ fn word(a: u8, b: u8, c: u8, d: u8) -> u64 {
     wide(a) * 16777216 + wide(b) * 65536 + wide(c) * 256 + wide(d)
 }
 
-fn print_image(f: Fields) {
+fn print_image(rt: &impl Print, f: Fields) {
     let mut bytes = [0u8; 8];
     image::write_image(f, &mut bytes);
-    print(b" image ");
-    io::print_hex(1, word(bytes[0], bytes[1], bytes[2], bytes[3]), 8);
-    io::print_hex(1, word(bytes[4], bytes[5], bytes[6], bytes[7]), 8);
+    print(rt, b" image ");
+    print_hex(rt, word(bytes[0], bytes[1], bytes[2], bytes[3]));
+    print_hex(rt, word(bytes[4], bytes[5], bytes[6], bytes[7]));
 }
 
 // One startup, and its line.
-fn powered(config: v4x7::Config, failing: u8) {
+fn powered(rt: &impl Print, config: v4x7::Config, failing: u8) {
     match started(config) {
         Started::NotStarted(n) => {
-            print(b"not started ");
-            io::print_decimal(1, n as u64);
+            print(rt, b"not started ");
+            print_decimal(rt, n as u64);
         }
         Started::Begun(begun) => {
             let end = run(begun, failing);
@@ -157,38 +170,39 @@ fn powered(config: v4x7::Config, failing: u8) {
             let report = again.report;
             let last = again.startup;
             let fields = last.fields;
-            print_report(report);
-            print_image(fields);
+            print_report(rt, report);
+            print_image(rt, fields);
         }
     }
-    print(b"\n");
+    print(rt, b"\n");
 }
 
-// One case; false where the input ends.
-fn case() -> bool {
+// One case; false where the input ends. A read that fails counts as the end.
+fn case<R: Read>(rt: &impl Print, reader: &mut R) -> bool {
     let mut bytes = [0u8; 10];
     let mut failing = [0u8; 1];
-    if io::read_full(0, &mut bytes) < 10 {
+    if reader.read_exact(&mut bytes).is_err() {
         return false;
     }
-    if io::read_full(0, &mut failing) < 1 {
+    if reader.read_exact(&mut failing).is_err() {
         return false;
     }
     match profile::read_profile(&bytes) {
         ReadProfile::Refused(n) => {
-            print(b"not read ");
-            io::print_decimal(1, n as u64);
-            print(b"\n");
+            print(rt, b"not read ");
+            print_decimal(rt, n as u64);
+            print(rt, b"\n");
         }
-        ReadProfile::Profile(config) => powered(config, failing[0]),
+        ReadProfile::Profile(config) => powered(rt, config, failing[0]),
     }
     true
 }
 
-fn main() {
+fn main(rt: HostRuntime) {
+    let mut reader = rt.reader();
     let mut i: u64 = 0;
     while i < 1_000_000 {
-        if !case() {
+        if !case(&rt, &mut reader) {
             return;
         }
         i += 1;

@@ -1,4 +1,6 @@
 // Answers binary query records, one after another, for every public call. oracle/README.md has the records to the byte.
+#![tactic(auto)]
+
 mod brr;
 mod codec;
 mod families;
@@ -10,6 +12,8 @@ mod script;
 mod ticked;
 mod trays;
 mod v4;
+
+use std::io::Read;
 
 fn answer(q: &[u8; 128]) -> [u8; 64] {
     let kind = q[0];
@@ -34,20 +38,21 @@ fn answer(q: &[u8; 128]) -> [u8; 64] {
     }
 }
 
-// One record; false where the input ends.
-fn step() -> bool {
+// One record; false where the input ends. A read that fails counts as the end.
+fn step<R: Read>(rt: &impl Print, reader: &mut R) -> bool {
     let mut query = [0u8; 128];
-    if io::read_full(0, &mut query) < 128 {
+    if reader.read_exact(&mut query).is_err() {
         return false;
     }
     let reply = answer(&query);
-    io::write_all(1, &reply)
+    rt.write_all(&reply).is_ok()
 }
 
-fn main() {
+fn main(rt: HostRuntime) {
+    let mut reader = rt.reader();
     let mut i: u64 = 0;
     while i < 1_000_000_000_000 {
-        if !step() {
+        if !step(&rt, &mut reader) {
             return;
         }
         i += 1;

@@ -1,6 +1,9 @@
 // Answers a list of inputs one after another: each is a length byte and so many bytes. What it writes is what the program `clocks` writes for each.
+#![tactic(auto)]
+
 ghost use Rattle.std.specs.Prelude.{◌<◌};
 
+use std::io::Read;
 use text::Put;
 
 fn wide(x: u8) -> usize
@@ -9,33 +12,34 @@ fn wide(x: u8) -> usize
     x as usize
 }
 
-// Writes the answer to an input. Every text has room.
-fn answer(input: &[u8]) -> bool {
+// Writes the answer to an input, and answers whether all of it went out. Every text has room.
+fn answer(rt: &impl Print, input: &[u8]) -> bool {
     let mut out = [0u8; report::TEXT];
     let Put::At(n) = report::report(input, &mut out) else {
         return false;
     };
-    io::write_all(1, &out[..n])
+    rt.write_all(&out[..n]).is_ok()
 }
 
-// Reads one input and answers it; false where there is none left.
-fn answer_next() -> bool {
+// Reads one input and answers it; false where there is none left. A read that fails counts as the end.
+fn answer_next<R: Read>(rt: &impl Print, reader: &mut R) -> bool {
     let mut size = [0u8; 1];
-    if io::read_full(0, &mut size) == 0 {
+    if reader.read_exact(&mut size).is_err() {
         return false;
     }
     let n = wide(size[0]);
     let mut input = [0u8; 255];
-    if io::read_full(0, &mut input[..n]) < n {
+    if reader.read_exact(&mut input[..n]).is_err() {
         return false;
     }
-    answer(&input[..n])
+    answer(rt, &input[..n])
 }
 
 // A proved loop has to end: so it counts its turns down, from a number that no run uses up.
-fn main() {
+fn main(rt: HostRuntime) {
+    let mut reader = rt.reader();
     let mut turns = u64::MAX;
-    while turns > 0 && answer_next() {
+    while turns > 0 && answer_next(&rt, &mut reader) {
         turns -= 1;
     }
 }
