@@ -63,7 +63,7 @@ at_once() {
 }
 
 # Reads what rt says, and a line `status N`. Shows a line for each of TOTAL crates that is proved, and one for what is not, with the log that says why.
-# Status 1 where one is not. Of a crate rt says `== CRATE` and what its check says, or nothing where it was proved before; at the end, how each came out.
+# Status 1 where one is not. Of a crate rt says `== CRATE` and what its check says, which is nothing where it was proved before; at the end, how each came out.
 count_proved() { # LOG TOTAL
     awk -v log_file="$1" -v total="$2" -v me="$me" '
         function proved(crate) {
@@ -76,7 +76,7 @@ count_proved() { # LOG TOTAL
             ended = crate == "summary"
             next
         }
-        { silent = 0 }
+        !/^rt: [a-z0-9_]*: begins with what a check kept/ { silent = 0 }
         !ended && /^logic=proved/ { proved(crate) }
         ended && sub(/: ok$/, "") { proved($0) }
         ended && /: failed \(/ { sub(/:.*/, ""); bad = bad " " $0 }
