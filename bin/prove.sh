@@ -13,7 +13,7 @@ need_kit() { command -v rt >/dev/null 2>&1 || fail "the Rattle kit's \`rt\` is n
 with_below() { # CRATE..
     awk -v wanted="$*" '
         /^#/ { next }
-        { name = substr($1, 1, length($1) - 1); order[++n] = name; $1 = ""; below[name] = $0 }
+        /:/ { name = $1; sub(/:.*/, "", name); order[++n] = name; sub(/^[^:]*:/, ""); below[name] = $0 }
         END {
             k = split(wanted, queue)
             for (i = 1; i <= k; i++) {
@@ -25,13 +25,13 @@ with_below() { # CRATE..
         }' "$root/crates.txt"
 }
 
-# One word for everything that these crates are proved from. Wrong answers are not among it.
+# One word for everything that these crates are proved from. Wrong answers are not among it, nor what rt leaves in out/.
 sources() { # CRATE..
     (
         cd "$root" || exit
         for crate in $(with_below "$@"); do
-            grep "^$crate:" crates.txt
-            find "crates/$crate" -type f ! -path '*/must-fail/*' -exec sha256sum {} + | LC_ALL=C sort
+            grep "^${crate}[ :]" crates.txt
+            find "crates/$crate" -type f ! -path '*/must-fail/*' ! -path "crates/$crate/out/*" -exec sha256sum {} + | LC_ALL=C sort
         done | sha256sum
     )
 }
@@ -57,12 +57,29 @@ hold() {
 
 release() { exec 9>&-; }
 
-# Reads what rt says, and a line `status N`. Shows a line for each crate that is proved, the first of them number FIRST of TOTAL, and one for what is
-# not proved, with the log that says why; CRATE in its name stands for the crate. Status 1 where one is not.
-count_proved() { # LOG FIRST TOTAL
-    awk -v log_file="$1" -v n="$2" -v total="$3" -v me="$me" '
-        $1 == "rt:" && $3 == "proved" { printf "%s: %d of %d proved: %s\n", me, n++, total, $2; fflush() }
-        $1 == "rt:" && $3 == "NOT" { bad = bad " " $2; sub(/CRATE/, $2, log_file) }
+# How many crates are proved at a time: as many as there are processors and, at two gigabytes each, memory.
+at_once() {
+    awk -v most="$(nproc)" '/^MemAvailable:/ { n = int($2 / 2000000) } END { print n < 1 ? 1 : n < most ? n : most }' /proc/meminfo
+}
+
+# Reads what rt says, and a line `status N`. Shows a line for each of TOTAL crates that is proved, and one for what is not, with the log that says why.
+# Status 1 where one is not. Of a crate rt says `== CRATE` and what its check says, which is nothing where it was proved before; at the end, how each came out.
+count_proved() { # LOG TOTAL
+    awk -v log_file="$1" -v total="$2" -v me="$me" '
+        function proved(crate) {
+            if (crate != "" && !told[crate]++) { printf "%s: %d of %d proved: %s\n", me, ++n, total, crate; fflush() }
+        }
+        /^== / {
+            if (silent) proved(crate)
+            crate = $2
+            silent = 1
+            ended = crate == "summary"
+            next
+        }
+        !/^rt: [a-z0-9_]*: begins with what a check kept/ { silent = 0 }
+        !ended && /^logic=proved/ { proved(crate) }
+        ended && sub(/: ok$/, "") { proved($0) }
+        ended && /: failed \(/ { sub(/:.*/, ""); bad = bad " " $0 }
         $1 == "status" && $2 != 0 { failed = 1 }
         END {
             if (bad != "") printf "%s: not proved:%s (%s has what rt says)\n", me, bad, log_file
@@ -71,14 +88,21 @@ count_proved() { # LOG FIRST TOTAL
         }' >&2
 }
 
-# Proves crates and what they stand on; MORE is how many the caller proves after them. LOG is named from the repository.
-prove() { # LOG MORE CRATE..
-    log=$1 more=$2
-    shift 2
+# Proves a crate and what it stands on. LOG is named from the repository.
+prove() { # LOG CRATE
     (
         cd "$root" || exit
-        { status=0; rt check "$@" 2>&1 || status=$?; echo "status $status"; } | tee "$log" | count_proved "$log" 1 $(($(with_below "$@" | wc -l) + more))
+        {
+            status=0
+            (cd "crates/$2" && rt all check --jobs "$(at_once)") 2>&1 || status=$?
+            echo "status $status"
+        } | tee "$1" | count_proved "$1" "$(with_below "$2" | wc -l)"
     )
+}
+
+# Takes over a program that rt has just proved and built of these sources: its place for us is target/bin.
+take() { # SOURCES PROGRAM
+    mkdir -p "$root/target/bin" && cp "$root/crates/$2/out/$2" "$root/target/bin/$2" && mark_of "$1" "$root/target/bin/$2" >"$root/target/$2.proved"
 }
 
 # Proves and builds a program where it is missing or was made of other sources. An unproved one is never run: the mark is set once the check has passed.
@@ -91,27 +115,20 @@ build() { # PROGRAM
     say "proves and builds the program first, which takes a few minutes the first time; target/$1.log has what rt says"
     rm -f "$proved"
     before=$(sources "$1")
-    prove "target/$1.log" 0 "$1" || exit 2
-    mark_of "$before" "$program" >"$proved"
+    prove "target/$1.log" "$1" || exit 2
+    # rt builds a program to run it. The status is then the program's own, so a line of rt says that it was built.
+    (cd "$root/crates/$1" && rt run </dev/null 2>&1 >/dev/null) >>"$root/target/$1.log"
+    grep -q "^rt: running out/$1" "$root/target/$1.log" || fail "rt could not build the program (target/$1.log has what it says)"
+    take "$before" "$1" || fail "target/bin/$1 can't be written"
     release
 }
 
-# Finds out how programs run here: they are compiled for x86-64, and run with the kit's loader and C library; on another processor under the kit's emulator.
-find_kit() {
-    need_kit
-    guide=$(rt doc 2>/dev/null) || fail "the Rattle kit's \`rt\` doesn't work here (try \`rt doc\`)"
-    tools=$(dirname "$(dirname "$guide")")/on/$(uname -m)/toolchain
-    loader=$tools/lib/ld-linux-x86-64.so.2
-    emulator=$tools/bin/qemu-x86_64
-    [ -x "$emulator" ] || emulator=''
-    if [ ! -r "$loader" ] || { [ -z "$emulator" ] && [ "$(uname -m)" != x86_64 ]; }; then
-        fail "the kit can run no program on this machine, $(uname -m)"
-    fi
-}
+# Programs are compiled for x86-64, and run there as they are.
+need_machine() { [ "$(uname -m)" = x86_64 ] || fail "the programs are for x86-64, and this machine, $(uname -m), is not"; }
 
 # Runs a program that is built.
 run() { # PROGRAM
-    ${emulator:+"$emulator"} "$loader" --library-path "$tools/lib" "$root/target/bin/$1"
+    "$root/target/bin/$1"
 }
 
 # Nothing is done where the answer could not be written.

@@ -45,7 +45,7 @@ stops() {
 
 # reads_on PROGRAM ANSWER: the program itself, run as its command runs it, answers a megabyte with this line, and its writer sees no broken pipe
 reads_on() {
-    { head -c 1000000 /dev/zero; echo $? >"$room/writer"; } | (me=tests && . "$root/bin/prove.sh" && find_kit && run "$1") >"$room/out" 2>"$room/err"
+    { head -c 1000000 /dev/zero; echo $? >"$room/writer"; } | (me=tests && . "$root/bin/prove.sh" && need_machine && run "$1") >"$room/out" 2>"$room/err"
     status=$?
     is "a megabyte straight into the program $1" 0 "$2"
     [ "$(cat "$room/writer")" = 0 ]

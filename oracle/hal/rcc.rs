@@ -1,5 +1,5 @@
 //! Stands in for ch32-hal's rcc/mod.rs: what the family files take from `super`.
-//! The family files themselves come, unchanged, from the checkout that `oracle/build` links to target/oracle/hal.
+//! The family files themselves come, unchanged, from the checkout, of which `oracle/build` has copies in target/oracle/hal.
 
 use crate::time::Hertz;
 use std::cell::Cell;
