@@ -8,7 +8,7 @@ use native.Mathlib.Omega.{arith}
 use borrow.Author.Tests.{lt-leb, le-ltb, ltb-true, not-false}
 use lib.Dec.{ltb, eqb}
 use lib.ListN.{take, drop}
-use Rattle.answer.specs.Answer.{Answer, gives, refuse, ◌>>=◌, ◌>>◌}
+use Rattle.answer.specs.Answer.{Answer, gives, refuse, ◌>>=◌}
 use Rattle.answer.specs.Tests.{every_at}
 use Rattle.answer.specs.Order.{Test, first_of, bare, InOrder, order_gives, order_past, order_bind, OrElse, else_gives, else_known, else_skip, else_past, else_refuse, else_bind, else_then, else_order}
 use Rattle.divider.specs.declared.Family.TheVariants.{V4x7}

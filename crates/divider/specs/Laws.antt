@@ -3,7 +3,7 @@
 use Rattle.std.specs.Prelude.{◌≡◌, refl, Bool, cond, List, [], ◌∷◌, ℕ, ◌<◌, ◌≤◌, ◌-◌, ◌*◌, ◌/◌, ◌%◌, ◌^◌, T, leb, eqb, get_or, length}
 use Rattle.std.proofs.Common.{ap, arith, mul-le-mul_right, le_trans, leb-false, leb→le, eqb→eq}
 use Rattle.std.proofs.Math.Nat.{mul-div-le}
-use Rattle.answer.specs.Answer.{Answer, gives, refuses, ◌>>=◌, ◌>>◌}
+use Rattle.answer.specs.Answer.{Answer, gives, refuses, ◌>>=◌}
 use Rattle.answer.specs.Each.{Each, each_gives, each_past, each_bind, each_at}
 use Rattle.answer.specs.Order.{OrElse, else_gives, else_known, else_past, else_bind}
 use Rattle.divider.specs.declared.Family.{Family}

@@ -1,7 +1,7 @@
 -- PCLK - rate x BRR as the machine computes it: what each operation reads back is the number.
 -- Assumes nothing.
 use mathlib.Core.Path.{◌≡◌, sym, ap₂, subst, ◌∙◌}
-use Prim.Native.Nat.{ℕ, ◌-◌, ◌*◌, ◌^◌, ◌<◌}
+use Prim.Native.Nat.{ℕ, ◌*◌, ◌^◌, ◌<◌}
 use native.Mathlib.Nat.{lt_of_le_of_lt, mul-le-mul, le_of_lt}
 use native.Mathlib.Omega.{arith}
 use lib.IntN.{ℤ, pos, ◌-ℤ◌, ◌*ℤ◌}

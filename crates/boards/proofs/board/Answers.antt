@@ -1,5 +1,4 @@
 use mathlib.Core.Path.{◌∙◌}
-use borrow.Author.Rules.{rules}
 use Rattle.boards.specs.Tray.{board_of}
 use Rattle.boards.specs.Laws.{board_length}
 use Rattle.boards.proofs.Filling.{sets_whole, its_record}

@@ -1,9 +1,9 @@
-use mathlib.Core.Path.{◌≡◌, ap, ◌∙◌}
+use mathlib.Core.Path.{◌≡◌, ◌∙◌}
 use Prim.Native.Nat.{◌+◌, ◌*◌, ◌≤◌}
 use native.Mathlib.Omega.{arith}
 use borrow.Author.Rules.{rules}
 use lib.ListN.{length}
-use Rattle.layout.proofs.Filling.{numbers_put, numbers_length}
+use Rattle.layout.proofs.Filling.{numbers_put}
 use Rattle.boards.proofs.put_record.Goals as goal
 
 pub returns : goal.returns

@@ -1,13 +1,8 @@
-use mathlib.Core.Path.{◌≡◌, refl, ap, ◌∙◌}
-use mathlib.Core.List.{List}
-use Prim.Native.Nat.{ℕ, ◌+◌, ◌-◌, ◌*◌, ◌≤◌}
-use native.Mathlib.Omega.{arith}
-use borrow.Author.Rules.{rules}
-use lib.ListN.{length, take, drop}
-use lib.Seq.{sets, length-sets}
-use Rattle.layout.specs.Numbers.{in_fours}
-use Rattle.boards.specs.Tray.{board_of, boards_in, records_of}
-use Rattle.boards.proofs.Filling.{its_record, none_stored, board_stored, boards_stored, too_short, uneven, served}
+use mathlib.Core.Path.{◌≡◌}
+use Prim.Native.Nat.{◌-◌, ◌*◌, ◌≤◌}
+use lib.ListN.{length, drop}
+use lib.Seq.{sets}
+use Rattle.boards.specs.Tray.{records_of}
 use Rattle.boards.proofs.tray.Given as goal
 
 abbrev pub invariant-loop-i : goal.invariant-loop-i

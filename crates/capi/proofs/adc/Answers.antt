@@ -1,4 +1,3 @@
-use borrow.Author.Rules.{rules}
 use Rattle.capi.specs.Calls.{adc_read}
 use Rattle.image.specs.Image.{read_image_says}
 use Rattle.answer.specs.Answer.{told}

@@ -1,4 +1,3 @@
-use borrow.Author.Rules.{rules}
 use Rattle.answer.specs.Answer.{told}
 use Rattle.v4x7.specs.Check.{checked_says}
 use Rattle.capi.proofs.check.Goals as goal

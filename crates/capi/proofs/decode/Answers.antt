@@ -1,5 +1,4 @@
 use mathlib.Core.Path.{sym}
-use borrow.Author.Rules.{rules}
 use Rattle.capi.specs.Calls.{decode_read}
 use Rattle.image.specs.Image.{read_image_says}
 use Rattle.answer.specs.Answer.{told}

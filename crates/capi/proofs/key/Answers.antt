@@ -1,5 +1,4 @@
 use mathlib.Core.Path.{sym, ap, ◌∙◌}
-use borrow.Author.Rules.{rules}
 use Rattle.capi.specs.Owed.{key_words}
 use Rattle.capi.proofs.key.Goals as goal
 

@@ -1,4 +1,3 @@
-use borrow.Author.Rules.{rules}
 use Rattle.capi.specs.Owed.{waits_read}
 use Rattle.profile.specs.Profile.{read_profile_says}
 use Rattle.answer.specs.Answer.{told}

@@ -1,5 +1,4 @@
 use mathlib.Core.Path.{sym}
-use borrow.Author.Rules.{rules}
 use Rattle.capi.proofs.wontabeli_waits_owed.Goals as goal
 
 pub returns : goal.returns

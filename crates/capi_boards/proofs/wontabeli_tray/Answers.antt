@@ -1,4 +1,3 @@
-use borrow.Author.Rules.{rules}
 use Rattle.capi_give.specs.Giving.{handed_on}
 use Rattle.capi_boards.proofs.wontabeli_tray.Goals as goal
 

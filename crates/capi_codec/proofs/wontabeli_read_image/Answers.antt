@@ -1,5 +1,4 @@
 use mathlib.Core.Path.{refl, ◌∙◌}
-use borrow.Author.Rules.{rules}
 use Rattle.image.specs.Image.{widths, read_image_says}
 use Rattle.layout.specs.Bits.{cut}
 use Rattle.capi_codec.specs.Codec.{image_fields}

@@ -1,5 +1,4 @@
 use mathlib.Core.Path.{refl, ◌∙◌}
-use borrow.Author.Rules.{rules}
 use Rattle.layout.specs.Bits.{cut}
 use Rattle.capi_codec.specs.Codec.{profile_fields}
 use Rattle.profile.specs.Profile.{widths, read_profile_says}

@@ -1,6 +1,4 @@
-use borrow.Author.Tests.{not-true, not-false}
 use mathlib.Core.Path.{refl}
-use borrow.Author.Rules.{rules}
 use Rattle.capi_codec.specs.Codec.{image_from}
 use Rattle.image.specs.Image.{read_image, read_image_says}
 use Rattle.capi_give.specs.Giving.{short, refused, passed_on}

@@ -1,7 +1,6 @@
 use Prim.Native.Nat.{◌-◌}
-use native.Mathlib.Omega.{arith}
 use lib.ListN.{length}
-use Rattle.capi_give.proofs.Copying.{Copied, none_yet, one_more, all_of_them}
+use Rattle.capi_give.proofs.Copying.{Copied}
 use Rattle.capi_give.proofs.copy.Given as goal
 
 abbrev pub invariant-loop-i : goal.invariant-loop-i

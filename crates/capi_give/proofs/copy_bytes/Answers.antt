@@ -1,7 +1,4 @@
-use Prim.Native.Nat.{◌-◌}
-use native.Mathlib.Omega.{arith}
-use lib.ListN.{length}
-use Rattle.capi_give.proofs.Copying.{Copied, none_yet, one_more, all_of_them}
+use Rattle.capi_give.proofs.Copying.{none_yet, one_more, all_of_them}
 use Rattle.capi_give.proofs.copy_bytes.Goals as goal
 
 pub loop-k-init : goal.loop-k-init

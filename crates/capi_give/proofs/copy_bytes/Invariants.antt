@@ -1,7 +1,6 @@
 use Prim.Native.Nat.{◌-◌}
-use native.Mathlib.Omega.{arith}
 use lib.ListN.{length}
-use Rattle.capi_give.proofs.Copying.{Copied, none_yet, one_more, all_of_them}
+use Rattle.capi_give.proofs.Copying.{Copied}
 use Rattle.capi_give.proofs.copy_bytes.Given as goal
 
 abbrev pub invariant-loop-k : goal.invariant-loop-k

@@ -1,5 +1,4 @@
 use mathlib.Core.Path.{refl}
-use borrow.Author.Rules.{rules}
 use Rattle.capi_give.specs.Giving.{short, given_as}
 use Rattle.capi_give.proofs.give.Goals as goal
 

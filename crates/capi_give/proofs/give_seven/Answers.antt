@@ -1,5 +1,4 @@
 use mathlib.Core.Path.{refl}
-use borrow.Author.Rules.{rules}
 use Rattle.capi_give.specs.Giving.{short, refused, passed_on}
 use Rattle.capi_give.proofs.give_seven.Goals as goal
 

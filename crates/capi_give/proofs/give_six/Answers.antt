@@ -1,5 +1,4 @@
 use mathlib.Core.Path.{refl}
-use native.Mathlib.Omega.{arith}
 use Rattle.capi_give.specs.Giving.{short, refused, passed_on}
 use Rattle.capi_give.proofs.give_six.Goals as goal
 

@@ -1,5 +1,4 @@
 use mathlib.Core.Path.{sym}
-use borrow.Author.Rules.{rules}
 use Rattle.tree.specs.Tree.{bus_says}
 use Rattle.answer.specs.Answer.{told}
 use Rattle.capi_h4.specs.Calls.{bus_words_of}

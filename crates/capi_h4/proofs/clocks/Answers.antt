@@ -1,5 +1,4 @@
 use mathlib.Core.Path.{sym}
-use borrow.Author.Rules.{rules}
 use Rattle.h4.specs.H4.{prescaled_says}
 use Rattle.answer.specs.Answer.{told}
 use Rattle.capi_h4.specs.Calls.{clocks_ahb_of}

@@ -1,4 +1,3 @@
-use borrow.Author.Rules.{rules}
 use Rattle.capi_h4.proofs.in_hertz.Goals as goal
 
 pub returns-in-Refused : goal.returns-in-Refused

@@ -1,5 +1,4 @@
 use mathlib.Core.Path.{sym}
-use borrow.Author.Rules.{rules}
 use Rattle.capi_h4.proofs.wontabeli_h4_hclk.Goals as goal
 
 pub returns : goal.returns

@@ -1,4 +1,3 @@
-use borrow.Author.Rules.{rules}
 use Rattle.capi_pll32.proofs.config_hse.Goals as goal
 
 pub returns-then-present : goal.returns-then-present

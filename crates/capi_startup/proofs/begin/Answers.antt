@@ -1,4 +1,3 @@
-use borrow.Author.Rules.{rules}
 use Rattle.answer.specs.Answer.{told}
 use Rattle.image.specs.Image.{read_image_says}
 use Rattle.profile.specs.Profile.{read_profile_says}

@@ -1,4 +1,3 @@
-use borrow.Author.Rules.{rules}
 use Rattle.capi_startup.proofs.Calling.{stays, unwritten, called}
 use Rattle.capi_startup.proofs.call.Goals as goal
 

@@ -1,5 +1,4 @@
 use mathlib.Core.Path.{refl}
-use borrow.Author.Rules.{rules}
 use Rattle.capi_startup.specs.Calls.{reading_of}
 use Rattle.capi_startup.proofs.reading.Goals as goal
 

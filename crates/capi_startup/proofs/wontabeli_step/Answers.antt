@@ -1,4 +1,3 @@
-use borrow.Author.Rules.{rules}
 use Rattle.answer.specs.Answer.{told}
 use Rattle.startup.specs.Call.{started_says}
 use Rattle.capi_startup.specs.Calls.{step_bytes}

@@ -1,4 +1,3 @@
-use native.Mathlib.Omega.{arith}
 use Rattle.capi_v1.specs.Calls.{config_of}
 use Rattle.capi_v1.proofs.config_of.Goals as goal
 

@@ -1,7 +1,6 @@
 use mathlib.Core.Path.{◌≡◌, sym}
 use mathlib.Core.Bool.{false, not, ◌||◌}
 use borrow.Author.Tests.{not-false}
-use borrow.Author.Rules.{rules}
 use Rattle.answer.specs.Tools.{neither}
 use Rattle.capi_v1.specs.Calls.{init_read}
 use Rattle.capi_v1.proofs.init_fields.Goals as goal

@@ -1,5 +1,4 @@
 use borrow.Author.Tests.{eq-eqb, ne_eqb}
-use native.Mathlib.Omega.{arith}
 use Rattle.answer.specs.Tools.{false_true}
 use Rattle.capi_v1.specs.Calls.{config_allowed}
 use Rattle.capi_v1.proofs.is_config.Goals as goal

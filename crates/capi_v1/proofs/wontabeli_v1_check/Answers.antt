@@ -1,5 +1,4 @@
 use mathlib.Core.Path.{sym, ap, ◌∙◌}
-use borrow.Author.Rules.{rules}
 use Rattle.capi_pll32.specs.Bytes.{seven_of}
 use Rattle.capi_v1.proofs.wontabeli_v1_check.Goals as goal
 

@@ -1,5 +1,4 @@
 use mathlib.Core.Path.{sym}
-use borrow.Author.Rules.{rules}
 use Rattle.capi_v1.proofs.wontabeli_v1_init_fields.Goals as goal
 
 pub returns : goal.returns

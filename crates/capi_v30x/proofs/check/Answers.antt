@@ -1,6 +1,4 @@
 use mathlib.Core.Path.{sym}
-use borrow.Author.Tests.{not-false}
-use borrow.Author.Rules.{rules}
 use Rattle.capi_v30x.specs.Calls.{check_read}
 use Rattle.capi_v30x.proofs.check.Goals as goal
 

@@ -1,4 +1,3 @@
-use native.Mathlib.Omega.{arith}
 use Rattle.capi_v30x.specs.Calls.{config_of}
 use Rattle.capi_v30x.proofs.config_of.Goals as goal
 

@@ -1,6 +1,5 @@
 use lib.ListN.{length}
 use mathlib.Core.Path.{refl, sym, ap}
-use borrow.Author.Rules.{rules}
 use Rattle.capi_give.specs.Giving.{short, refused, passed_on}
 use Rattle.answer.specs.Answer.{gives}
 use Rattle.capi_v30x.proofs.give_fields.Goals as goal

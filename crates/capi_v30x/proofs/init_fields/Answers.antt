@@ -1,7 +1,6 @@
 use mathlib.Core.Path.{sym}
 use mathlib.Core.Bool.{not}
 use borrow.Author.Tests.{not-false}
-use borrow.Author.Rules.{rules}
 use Rattle.answer.specs.Tools.{neither}
 use Rattle.capi_v30x.specs.Calls.{init_read}
 use Rattle.capi_v30x.proofs.init_fields.Goals as goal

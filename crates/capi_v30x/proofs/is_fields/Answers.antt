@@ -1,5 +1,4 @@
 use borrow.Author.Tests.{eq-eqb, ne_eqb}
-use borrow.Author.Rules.{rules}
 use Rattle.answer.specs.Tools.{false_true}
 use Rattle.capi_v30x.proofs.is_fields.Goals as goal
 

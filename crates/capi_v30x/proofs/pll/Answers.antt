@@ -1,4 +1,3 @@
-use borrow.Author.Rules.{rules}
 use Rattle.capi_v30x.proofs.pll.Goals as goal
 
 pub returns-then-present : goal.returns-then-present

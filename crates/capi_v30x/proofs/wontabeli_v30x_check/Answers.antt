@@ -1,5 +1,4 @@
 use mathlib.Core.Path.{sym, ap, ◌∙◌}
-use borrow.Author.Rules.{rules}
 use Rattle.capi_pll32.specs.Bytes.{seven_of}
 use Rattle.capi_v30x.proofs.wontabeli_v30x_check.Goals as goal
 

@@ -1,5 +1,4 @@
 use mathlib.Core.Path.{sym}
-use borrow.Author.Rules.{rules}
 use Rattle.capi_v30x.proofs.wontabeli_v30x_decode.Goals as goal
 
 pub returns : goal.returns

@@ -1,5 +1,4 @@
 use mathlib.Core.Path.{sym}
-use borrow.Author.Rules.{rules}
 use Rattle.answer.specs.Answer.{told}
 use Rattle.v4x7_rules.specs.Rules.{ratio_says}
 use Rattle.decoder.specs.Queries.{adc_query_of}

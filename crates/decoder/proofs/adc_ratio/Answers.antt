@@ -1,4 +1,3 @@
-use borrow.Author.Rules.{rules}
 use borrow.Author.Tests.{le-leb, lt-leb}
 use Rattle.decoder.specs.Queries.{adc_ratio_of}
 use Rattle.decoder.proofs.adc_ratio.Goals as goal

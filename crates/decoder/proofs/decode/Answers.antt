@@ -1,4 +1,3 @@
-use borrow.Author.Rules.{rules}
 use mathlib.Core.Path.{sym}
 use Rattle.answer.specs.Answer.{told}
 use Rattle.divider.specs.Frequency.{rate_says}

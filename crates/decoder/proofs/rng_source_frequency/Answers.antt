@@ -1,5 +1,4 @@
 use mathlib.Core.Path.{◌≡◌, sym}
-use borrow.Author.Rules.{rules}
 use borrow.Author.Tests.{not-true, not-false}
 use Rattle.decoder.specs.Queries.{rng_pll_of, rng_query_of}
 use Rattle.decoder.proofs.rng_source_frequency.Goals as goal

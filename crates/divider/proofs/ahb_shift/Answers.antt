@@ -1,4 +1,3 @@
-use native.Mathlib.Omega.{arith}
 use Rattle.divider.proofs.Shifts.{ahb_rule}
 use Rattle.divider.proofs.ahb_shift.Goals as goal
 

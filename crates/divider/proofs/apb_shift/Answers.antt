@@ -1,7 +1,6 @@
 use mathlib.Core.Path.{◌≡◌, subst}
 use Prim.Native.Nat.{◌-◌}
 use native.Mathlib.Omega.{arith}
-use borrow.Author.Rules.{rules}
 use Rattle.divider.specs.Divide.{apb_divisor}
 use Rattle.divider.specs.Laws.{ShiftFor}
 use Rattle.divider.proofs.Shifts.{apb_rule}

@@ -1,4 +1,3 @@
-use borrow.Author.Rules.{rules}
 use Rattle.answer.specs.Answer.{told}
 use Rattle.divider.specs.Divide.{quotient_says}
 use Rattle.divider.specs.Laws.{by_apb_quotient}

@@ -1,4 +1,3 @@
-use borrow.Author.Rules.{rules}
 use Rattle.divider.specs.Laws.{fpre_between}
 use Rattle.divider.proofs.by_fpre.Goals as goal
 

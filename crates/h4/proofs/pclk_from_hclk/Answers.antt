@@ -1,4 +1,3 @@
-use borrow.Author.Rules.{rules}
 use Rattle.answer.specs.Answer.{told}
 use Rattle.divider.specs.Frequency.{rate_says}
 use Rattle.h4.specs.H4.{pclk_of}

@@ -1,4 +1,3 @@
-use borrow.Author.Rules.{rules}
 use borrow.Author.Tests.{le-leb, lt-leb}
 use Rattle.h4.specs.H4.{doubled_of}
 use Rattle.h4.proofs.pll_mul_x2.Goals as goal

@@ -1,4 +1,3 @@
-use borrow.Author.Rules.{rules}
 use Rattle.image.proofs.cfgr2_of.Goals as goal
 
 pub returns : goal.returns

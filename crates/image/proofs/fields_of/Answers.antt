@@ -1,5 +1,4 @@
 use Rattle.image.specs.Image.{fields_of}
-use borrow.Author.Rules.{rules}
 use Rattle.image.proofs.fields_of.Goals as goal
 
 pub returns : goal.returns

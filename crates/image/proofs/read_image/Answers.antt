@@ -1,7 +1,6 @@
 use mathlib.Core.Path.{sym}
 use borrow.Author.Tests.{eq-eqb, ne_eqb}
 use Rattle.image.specs.Image.{read_image}
-use borrow.Author.Rules.{rules}
 use Rattle.image.proofs.read_image.Goals as goal
 
 pub returns-then-s-ne8 : goal.returns-then-s-ne8

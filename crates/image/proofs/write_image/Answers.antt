@@ -1,9 +1,5 @@
-use mathlib.Core.Path.{◌≡◌, sym, ap, ◌∙◌}
+use mathlib.Core.Path.{◌≡◌, sym, ◌∙◌}
 use mathlib.Core.Bool.{false}
-use borrow.Author.Rules.{rules}
-use borrow.Author.Tests.{not-true, not-false}
-use lib.ListN.{length}
-use Rattle.layout.proofs.Filling.{numbers_length}
 use Rattle.layout.proofs.Writing as writing
 use Rattle.image.specs.Image.{in_width, image_bytes}
 use Rattle.image.specs.Width.{wide}

@@ -6,7 +6,6 @@ use lib.ListN.{get_or}
 use lib.Pow.{pow_mono, shl_lt}
 use Rattle.layout.specs.Bits.{bits_at}
 use Rattle.layout.proofs.Reading.{bits_lt, bits_on, first_bits, up_to_all}
-use borrow.Author.Rules.{rules}
 use Rattle.layout.proofs.bits.Goals as goal
 use Rattle.layout.proofs.bits.Goals.{After-byte, After-first_bits}
 

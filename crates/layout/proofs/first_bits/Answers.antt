@@ -2,7 +2,6 @@ use Prim.Native.Nat.{◌+◌, ◌-◌, ◌^◌, ◌≤◌}
 use native.Mathlib.Omega.{arith}
 use lib.Pow.{pow_mono, shl_lt}
 use Rattle.layout.proofs.Reading.{first_bits}
-use borrow.Author.Rules.{rules}
 use Rattle.layout.proofs.first_bits.Goals as goal
 
 pub overflow_mul-result : goal.overflow_mul-result

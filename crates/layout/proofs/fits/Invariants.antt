@@ -1,15 +1,8 @@
-use mathlib.Core.Path.{◌≡◌, refl, sym, ap, ap₂, ◌∙◌}
-use mathlib.Core.Bool.{Bool, true, false, ◌&&◌, not}
-use mathlib.Core.List.{List, []}
-use Prim.Native.Nat.{ℕ, ◌+◌, ◌*◌, ◌/◌, ◌%◌, ◌^◌, ◌≤◌, ◌<◌, ◌-◌}
-use native.Mathlib.Omega.{arith}
-use borrow.Author.Tests.{not-true, not-false, leb-true}
-use lib.Dec.{eqb, leb, ltb}
-use lib.ListN.{length, drop, take, get_or}
-use lib.Seq.{drop-length, take-length}
-use Rattle.answer.specs.Tools.{and_left}
-use Rattle.layout.specs.Layout.{total, fields_fit, field_fits, storable}
-use Rattle.layout.proofs.Laws.{fits_at, fits_fitting, fitting_length, total_next}
+use mathlib.Core.Path.{◌≡◌}
+use mathlib.Core.List.{List}
+use Prim.Native.Nat.{ℕ, ◌+◌, ◌*◌, ◌≤◌, ◌<◌, ◌-◌}
+use lib.ListN.{length, drop, take}
+use Rattle.layout.specs.Layout.{total, fields_fit}
 use Rattle.layout.proofs.fits.Given as goal
 
 pub record Passed (ws xs : List ℕ) (size count i : ℕ) : Type 0 where

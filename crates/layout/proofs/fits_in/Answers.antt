@@ -1,5 +1,4 @@
 use borrow.Author.Tests.{le-leb, lt-leb}
-use borrow.Author.Rules.{rules}
 use Rattle.layout.proofs.fits_in.Goals as goal
 
 pub returns-then-w-le8 : goal.returns-then-w-le8

@@ -1,5 +1,4 @@
 use native.Mathlib.Nat.{div-one}
-use borrow.Author.Rules.{rules}
 use Rattle.layout.proofs.four_bytes.Goals as goal
 
 pub returns : goal.returns

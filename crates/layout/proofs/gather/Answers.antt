@@ -3,7 +3,6 @@ use Prim.Native.Nat.{ℕ, ◌+◌, ◌*◌, ◌^◌}
 use native.Mathlib.Omega.{arith}
 use lib.Pow.{pow_pos}
 use Rattle.layout.proofs.Gathering.{sum_fits, kept, is_byte, byte_put}
-use borrow.Author.Rules.{rules}
 use Rattle.layout.proofs.gather.Goals as goal
 
 -- the pending bits and the field, as one number

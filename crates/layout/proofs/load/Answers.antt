@@ -1,11 +1,10 @@
 use mathlib.Core.Path.{ap, ◌∙◌}
-use Prim.Native.Nat.{ℕ, ◌-◌, ◌≤◌, ◌<◌}
+use Prim.Native.Nat.{ℕ, ◌≤◌, ◌<◌}
 use native.Mathlib.Omega.{arith}
 use lib.ListN.{length}
 use Rattle.layout.specs.Bits.{up_to, loading}
-use Rattle.layout.proofs.Loading.{Loading, none_loaded, next_loaded, all_loaded}
+use Rattle.layout.proofs.Loading.{none_loaded, next_loaded, all_loaded}
 use Rattle.layout.proofs.Reading.{up_to_below}
-use borrow.Author.Rules.{rules}
 use Rattle.layout.proofs.load.Goals as goal
 use Rattle.layout.proofs.load.Goals.{After-up_to-n}
 

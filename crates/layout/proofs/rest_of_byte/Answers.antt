@@ -1,6 +1,5 @@
 use lib.Pow.{pow_pos}
 use Rattle.layout.proofs.Reading.{rest_of_byte}
-use borrow.Author.Rules.{rules}
 use Rattle.layout.proofs.rest_of_byte.Goals as goal
 
 pub nonzero_rem-result : goal.nonzero_rem-result

@@ -1,18 +1,9 @@
-use mathlib.Core.Path.{◌≡◌, refl, sym, ap, ap₂, ◌∙◌}
-use mathlib.Core.Bool.{true, false, ◌&&◌}
-use mathlib.Core.List.{List, ◌++◌}
-use Prim.Native.Nat.{ℕ, ◌+◌, ◌*◌, ◌%◌, ◌^◌, ◌≤◌, ◌<◌, ◌-◌}
-use native.Mathlib.Omega.{arith}
-use borrow.Author.Tests.{leb-true, ltb-true, eqb-true, not-true, not-false}
-use lib.Dec.{eqb, leb, ltb}
-use lib.ListN.{length, take, drop, get_or, take-append-drop}
-use lib.Seq.{take-length, length-take-le}
-use Rattle.answer.specs.Tools.{and_left, and_right}
-use Rattle.layout.specs.Layout.{total, pack, unpack, bytes, num, fields_fit, size_of, storable, packed}
+use mathlib.Core.List.{List}
+use Prim.Native.Nat.{ℕ, ◌≤◌, ◌-◌}
+use lib.ListN.{length, take}
+use Rattle.layout.specs.Layout.{total, pack}
 use Rattle.layout.specs.declared.Pending.{Pending}
-use Rattle.layout.specs.Gathered.{Gathered, Fits}
-use Rattle.layout.specs.Stored.{Stored}
-use Rattle.layout.proofs.Laws.{fits_each, fits_fitting, fitting_length, total_next, total_take, pack_next, unpack_pack}
+use Rattle.layout.specs.Gathered.{Gathered}
 use Rattle.layout.proofs.store.Given as goal
 
 pub record Storing (ws xs was out : List ℕ) (p : Pending) (i : ℕ) : Type 0 where

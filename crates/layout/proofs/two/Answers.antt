@@ -1,7 +1,6 @@
 use native.Mathlib.Nat.{mod-eq_of_lt, one-mul}
 use native.Mathlib.Omega.{arith}
 use lib.Pow.{pow-lt}
-use borrow.Author.Rules.{rules}
 use Rattle.layout.proofs.two.Goals as goal
 
 pub returns : goal.returns

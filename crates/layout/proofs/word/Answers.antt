@@ -1,6 +1,5 @@
 use native.Mathlib.Omega.{arith}
 use Rattle.layout.proofs.Reading.{bits_lt}
-use borrow.Author.Rules.{rules}
 use Rattle.layout.proofs.word.Goals as goal
 
 pub overflow_cast-result : goal.overflow_cast-result

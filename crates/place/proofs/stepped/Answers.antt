@@ -1,5 +1,4 @@
 use mathlib.Core.Path.{sym}
-use borrow.Author.Rules.{rules}
 use Rattle.place.specs.Place.{stepped_in}
 use Rattle.place.proofs.stepped.Goals as goal
 

@@ -1,4 +1,3 @@
-use borrow.Author.Rules.{rules}
 use borrow.Author.Tests.{eq-eqb, ne_eqb}
 use Rattle.pll32.specs.Pll.{decoded_sysclk_of}
 use Rattle.pll32.proofs.decoded_sysclk.Goals as goal

@@ -1,4 +1,3 @@
-use native.Mathlib.Omega.{arith}
 use Rattle.pll32.proofs.Factors.{factor_rule}
 use Rattle.pll32.proofs.factor_of.Goals as goal
 

@@ -1,4 +1,3 @@
-use borrow.Author.Rules.{rules}
 use Rattle.pll32.proofs.source_frequency.Goals as goal
 
 pub returns-in-Hsi : goal.returns-in-Hsi

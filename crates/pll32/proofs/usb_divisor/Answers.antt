@@ -1,4 +1,3 @@
-use borrow.Author.Rules.{rules}
 use borrow.Author.Tests.{ne_eqb}
 use Rattle.pll32.specs.Pll.{usb_divisor}
 use Rattle.pll32.proofs.usb_divisor.Goals as goal

@@ -1,4 +1,3 @@
-use borrow.Author.Rules.{rules}
 use Rattle.profile.proofs.adc_fields.Goals as goal
 
 pub returns-in-Hclk : goal.returns-in-Hclk

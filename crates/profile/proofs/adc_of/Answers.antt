@@ -1,4 +1,3 @@
-use borrow.Author.Rules.{rules}
 use Rattle.profile.proofs.adc_of.Goals as goal
 
 pub returns-then-present : goal.returns-then-present

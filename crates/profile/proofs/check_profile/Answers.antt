@@ -1,4 +1,3 @@
-use borrow.Author.Rules.{rules}
 use Rattle.answer.specs.Answer.{told}
 use Rattle.profile.specs.Profile.{read_profile_says, check_profile}
 use Rattle.profile.proofs.check_profile.Goals as goal

@@ -9,7 +9,6 @@ use Rattle.v4x7.specs.declared.Pll.{Pll}
 use Rattle.v4x7.specs.declared.HsPll.{HsPll}
 use Rattle.v4x7.specs.declared.AdcClockSource.{AdcClockSource}
 use Rattle.profile.specs.Profile.{frequency_in, hse_of, pll_of, hspll_of, adc_of, config_of}
-use borrow.Author.Rules.{rules}
 use Rattle.profile.proofs.config_of.Goals as goal
 
 -- the configuration with these parts

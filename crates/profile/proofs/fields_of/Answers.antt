@@ -5,7 +5,6 @@ use lib.ListN.{get_or}
 use mir.Val.{bool_byte}
 use Rattle.v4x7.specs.declared.Config.{Config}
 use Rattle.profile.specs.Profile.{hse_fields, pll_present, pll_multiplier, hspll_present, hspll_source, adc_from_usb_hs, adc_divisor, rest_of, fields_of}
-use borrow.Author.Rules.{rules}
 use Rattle.profile.proofs.fields_of.Goals as goal
 
 module _ (c : Config) (h p u a : List ℕ) where

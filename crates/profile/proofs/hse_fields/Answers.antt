@@ -11,7 +11,6 @@ use Rattle.layout.specs.Bits.{bit}
 use Rattle.v4x7.specs.declared.Hse.{Hse}
 use Rattle.v4x7.specs.declared.Hse.TheVariants as hse
 use Rattle.profile.specs.Profile.{hse_fields}
-use borrow.Author.Rules.{rules}
 use Rattle.profile.proofs.hse_fields.Goals as goal
 
 -- the four bytes of a u32

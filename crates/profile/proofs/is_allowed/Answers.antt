@@ -1,5 +1,4 @@
 use Rattle.profile.specs.Profile.{tests}
-use borrow.Author.Rules.{rules}
 use Rattle.profile.proofs.is_allowed.Goals as goal
 
 pub returns : goal.returns

@@ -1,4 +1,3 @@
-use borrow.Author.Rules.{rules}
 use Rattle.profile.proofs.pll_fields.Goals as goal
 
 pub returns-in-Absent : goal.returns-in-Absent

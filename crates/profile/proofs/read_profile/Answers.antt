@@ -8,7 +8,6 @@ use Rattle.answer.specs.Answer.{gives, refuses}
 use Rattle.layout.specs.Bits.{cut}
 use Rattle.v4x7.specs.declared.Config.{Config}
 use Rattle.profile.specs.Profile.{widths, allowed, config_of, read_profile}
-use borrow.Author.Rules.{rules}
 use Rattle.profile.proofs.read_profile.Goals as goal
 
 module _ (s xs : List ℕ) (l : length s ≡ 10) (e : xs ≡ cut widths s 0) where

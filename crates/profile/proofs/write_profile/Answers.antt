@@ -2,7 +2,6 @@ use mathlib.Core.Path.{◌≡◌, refl, sym, ap, ◌∙◌}
 use mathlib.Core.Bool.{Bool, true, false, ◌&&◌}
 use mathlib.Core.List.{List}
 use Prim.Native.Nat.{ℕ, ◌≤◌}
-use borrow.Author.Tests.{not-true, not-false}
 use lib.ListN.{length}
 use Rattle.answer.specs.Answer.{gives, refuses}
 use Rattle.answer.specs.declared.Outcome.TheVariants.{Done, Refused}
@@ -13,7 +12,6 @@ use Rattle.layout.proofs.Laws.{fits_narrow}
 use Rattle.layout.proofs.Writing as writing
 use Rattle.v4x7.specs.declared.Config.{Config}
 use Rattle.profile.specs.Profile.{widths, allowed, fields_of, writable, profile_bytes}
-use borrow.Author.Rules.{rules}
 use Rattle.profile.proofs.write_profile.Goals as goal
 
 module _ (c : Config) (l xs : List ℕ) (h : 10 ≤ length l) (e : xs ≡ fields_of c) where

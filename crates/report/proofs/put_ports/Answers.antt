@@ -1,8 +1,7 @@
-use Prim.Native.Nat.{◌+◌, ◌-◌, ◌≤◌}
+use Prim.Native.Nat.{◌+◌, ◌≤◌}
 use native.Mathlib.Omega.{arith}
-use borrow.Author.Rules.{rules}
 use lib.ListN.{length}
-use Rattle.report.proofs.Ports.{Lining, begun, lined, ended}
+use Rattle.report.proofs.Ports.{begun, lined, ended}
 use Rattle.report.proofs.put_ports.Goals as goal
 use Rattle.report.proofs.put_ports.Goals.{In-loop-at}
 

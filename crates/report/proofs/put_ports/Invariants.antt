@@ -1,8 +1,6 @@
-use Prim.Native.Nat.{◌+◌, ◌-◌, ◌≤◌}
-use native.Mathlib.Omega.{arith}
-use borrow.Author.Rules.{rules}
+use Prim.Native.Nat.{◌-◌}
 use lib.ListN.{length}
-use Rattle.report.proofs.Ports.{Lining, begun, lined, ended}
+use Rattle.report.proofs.Ports.{Lining}
 use Rattle.report.proofs.put_ports.Given as goal
 
 abbrev pub invariant-loop-at : goal.invariant-loop-at

@@ -1,7 +1,4 @@
-use mathlib.Core.Path.{sym}
 use native.Mathlib.Omega.{arith}
-use borrow.Author.Rules.{rules}
-use lib.Seq.{length-take-le}
 use Rattle.report.proofs.Showing.{never, within, made}
 use Rattle.report.proofs.report.Goals as goal
 

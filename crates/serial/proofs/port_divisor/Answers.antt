@@ -1,4 +1,3 @@
-use borrow.Author.Rules.{rules}
 use borrow.Author.Tests.{ne_eqb}
 use Rattle.serial.specs.Serial.{port_of}
 use Rattle.serial.proofs.port_divisor.Goals as goal

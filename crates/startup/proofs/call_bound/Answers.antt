@@ -1,5 +1,4 @@
 use native.Mathlib.Omega.{arith}
-use borrow.Author.Rules.{rules}
 use Rattle.answer.specs.Answer.{told}
 use Rattle.answer.specs.Said.{reply_says}
 use Rattle.startup.specs.Call.{call_bound_of}

@@ -1,4 +1,3 @@
-use borrow.Author.Rules.{rules}
 use Rattle.startup.proofs.compare.Goals as goal
 
 pub returns-then-same : goal.returns-then-same

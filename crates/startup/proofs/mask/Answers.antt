@@ -1,4 +1,3 @@
-use borrow.Author.Rules.{rules}
 use Rattle.startup.specs.Steps.{listed_of}
 use Rattle.startup.proofs.mask.Goals as goal
 

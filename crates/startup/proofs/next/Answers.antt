@@ -1,8 +1,5 @@
-use mathlib.Core.Path.{◌≡◌, refl, ◌∙◌, sym}
-use Prim.Native.Nat.{◌-◌}
+use mathlib.Core.Path.{refl, ◌∙◌, sym}
 use native.Mathlib.Omega.{arith}
-use borrow.Author.Rules.{rules}
-use Rattle.startup.specs.Steps.{next_of}
 use Rattle.startup.proofs.Shape.{next_here, next_later, next_none}
 use Rattle.startup.proofs.next.Goals as goal
 

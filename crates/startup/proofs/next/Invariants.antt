@@ -1,9 +1,6 @@
-use mathlib.Core.Path.{◌≡◌, refl, ◌∙◌, sym}
+use mathlib.Core.Path.{◌≡◌}
 use Prim.Native.Nat.{◌-◌}
-use native.Mathlib.Omega.{arith}
-use borrow.Author.Rules.{rules}
 use Rattle.startup.specs.Steps.{next_of}
-use Rattle.startup.proofs.Shape.{next_here, next_later, next_none}
 use Rattle.startup.proofs.next.Given as goal
 
 abbrev pub invariant-loop-n : goal.invariant-loop-n

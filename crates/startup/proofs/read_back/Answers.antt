@@ -1,4 +1,3 @@
-use borrow.Author.Rules.{rules}
 use Rattle.startup.proofs.read_back.Goals as goal
 
 pub returns-then-right : goal.returns-then-right

@@ -1,5 +1,4 @@
 use mathlib.Core.Path.{sym}
-use borrow.Author.Rules.{rules}
 use Rattle.startup.proofs.repeated.Goals as goal
 
 pub returns-then-not-named_codes : goal.returns-then-not-named_codes

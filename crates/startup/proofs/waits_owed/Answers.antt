@@ -1,6 +1,5 @@
 use mathlib.Core.Path.{sym, ◌∙◌, ap}
 use native.Mathlib.Omega.{arith}
-use borrow.Author.Rules.{rules}
 use lib.Count.{ones}
 use Rattle.startup.specs.Call.{waits_owed_of}
 use Rattle.startup.specs.Owed.{ones_turned_on, four_at_most}

@@ -1,5 +1,4 @@
 use mathlib.Core.Path.{◌∙◌}
-use borrow.Author.Rules.{rules}
 use Rattle.startup.specs.declared.steps.Work.TheVariants.{Wrote, Waits, Reads, Compares, NotListed}
 use Rattle.startup.proofs.Cases.{by_work, by_reading}
 use Rattle.startup.proofs.work.Goals as goal

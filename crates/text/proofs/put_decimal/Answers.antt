@@ -1,4 +1,3 @@
-use native.Mathlib.Omega.{arith}
 use Rattle.text.proofs.Numbers.{number_part}
 use Rattle.text.proofs.put_decimal.Goals as goal
 

@@ -1,4 +1,3 @@
-use Rattle.std.proofs.Common.{rules}
 use Rattle.ticks.proofs.meets_wait.Goals as goal
 
 pub returns-in-Worked : goal.returns-in-Worked

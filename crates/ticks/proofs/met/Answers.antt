@@ -1,4 +1,3 @@
-use Rattle.std.proofs.Common.{rules}
 use Rattle.ticks.specs.Ticks.{met_of}
 use Rattle.ticks.proofs.met.Goals as goal
 

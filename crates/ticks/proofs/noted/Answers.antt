@@ -1,4 +1,3 @@
-use Rattle.std.proofs.Common.{rules}
 use Rattle.ticks.specs.Ticks.{noted_of}
 use Rattle.ticks.proofs.noted.Goals as goal
 

@@ -1,4 +1,3 @@
-use borrow.Author.Rules.{rules}
 use Rattle.answer.specs.Answer.{told}
 use Rattle.tree.specs.Tree.{bus_says, below_of}
 use Rattle.tree.proofs.below_hclk.Goals as goal

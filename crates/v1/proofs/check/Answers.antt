@@ -1,5 +1,4 @@
 use mathlib.Core.Path.{sym}
-use borrow.Author.Rules.{rules}
 use Rattle.answer.specs.Answer.{told}
 use Rattle.tree.specs.Tree.{made_says}
 use Rattle.v1.specs.V1.{check_of}

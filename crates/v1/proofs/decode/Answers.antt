@@ -1,5 +1,4 @@
 use mathlib.Core.Path.{sym}
-use borrow.Author.Rules.{rules}
 use Rattle.v1.specs.V1.{decode_of}
 use Rattle.v1.proofs.decode.Goals as goal
 

@@ -1,5 +1,4 @@
 use mathlib.Core.Path.{sym}
-use borrow.Author.Rules.{rules}
 use Rattle.v1.specs.V1.{pll_fields}
 use Rattle.v1.proofs.pll_fields.Goals as goal
 

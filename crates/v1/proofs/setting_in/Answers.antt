@@ -1,5 +1,4 @@
 use mathlib.Core.Path.{sym}
-use borrow.Author.Rules.{rules}
 use Rattle.v1.specs.V1.{setting_in}
 use Rattle.v1.proofs.setting_in.Goals as goal
 

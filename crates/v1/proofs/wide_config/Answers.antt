@@ -1,5 +1,4 @@
 use mathlib.Core.Path.{sym}
-use borrow.Author.Rules.{rules}
 use Rattle.v1.specs.V1.{wide_config}
 use Rattle.v1.proofs.wide_config.Goals as goal
 

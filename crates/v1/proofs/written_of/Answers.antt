@@ -1,5 +1,4 @@
 use mathlib.Core.Path.{sym}
-use borrow.Author.Rules.{rules}
 use Rattle.v1.specs.V1.{written_of}
 use Rattle.v1.proofs.written_of.Goals as goal
 

@@ -1,4 +1,3 @@
-use borrow.Author.Rules.{rules}
 use Rattle.v30x.specs.V30x.{configured_pll_of}
 use Rattle.v30x.proofs.configured_pll.Goals as goal
 

@@ -1,5 +1,4 @@
 use mathlib.Core.Path.{sym}
-use borrow.Author.Rules.{rules}
 use Rattle.answer.specs.Answer.{told}
 use Rattle.pll32.specs.Pll.{checked_says}
 use Rattle.v30x.specs.V30x.{fields_of}

@@ -1,4 +1,3 @@
-use borrow.Author.Rules.{rules}
 use Rattle.v30x.specs.V30x.{pll_fields}
 use Rattle.v30x.proofs.pll_fields.Goals as goal
 

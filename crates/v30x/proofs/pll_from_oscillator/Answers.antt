@@ -1,5 +1,4 @@
 use mathlib.Core.Path.{sym}
-use borrow.Author.Rules.{rules}
 use Rattle.answer.specs.Answer.{told}
 use Rattle.divider.specs.Frequency.{rate_says}
 use Rattle.v30x.specs.V30x.{pll_from_oscillator_of}

@@ -1,5 +1,4 @@
 use mathlib.Core.Path.{sym}
-use borrow.Author.Rules.{rules}
 use Rattle.v30x.specs.V30x.{setting_in}
 use Rattle.v30x.proofs.setting_in.Goals as goal
 

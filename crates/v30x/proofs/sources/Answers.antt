@@ -1,5 +1,4 @@
 use mathlib.Core.Path.{sym}
-use borrow.Author.Rules.{rules}
 use Rattle.answer.specs.Answer.{told}
 use Rattle.answer.specs.Said.{outcome_says}
 use Rattle.tree.specs.Tree.{made_says}

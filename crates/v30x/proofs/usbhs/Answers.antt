@@ -1,6 +1,5 @@
 use mathlib.Core.Path.{◌≡◌, sym}
 use mathlib.Core.Bool.{not}
-use borrow.Author.Rules.{rules}
 use Rattle.answer.specs.Answer.{refuse, told}
 use Rattle.divider.specs.Frequency.{rate_says}
 use Rattle.v30x.specs.V30x.{usbhs_of}

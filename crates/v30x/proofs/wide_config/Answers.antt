@@ -1,5 +1,4 @@
 use mathlib.Core.Path.{sym}
-use borrow.Author.Rules.{rules}
 use Rattle.v30x.specs.V30x.{wide_config}
 use Rattle.v30x.proofs.wide_config.Goals as goal
 

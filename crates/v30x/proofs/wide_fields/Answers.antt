@@ -1,5 +1,4 @@
 use mathlib.Core.Path.{sym}
-use borrow.Author.Rules.{rules}
 use Rattle.v30x.specs.V30x.{wide_fields}
 use Rattle.v30x.proofs.wide_fields.Goals as goal
 

@@ -1,5 +1,4 @@
 use mathlib.Core.Path.{sym}
-use borrow.Author.Rules.{rules}
 use Rattle.v30x.specs.V30x.{written_of}
 use Rattle.v30x.proofs.written_of.Goals as goal
 

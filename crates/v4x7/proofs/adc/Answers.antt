@@ -1,4 +1,3 @@
-use borrow.Author.Rules.{rules}
 use Rattle.answer.specs.Answer.{told}
 use Rattle.v4x7_rules.specs.Rules.{ratio_says}
 use Rattle.v4x7.specs.AdcLaws.{ratio_given}

@@ -1,4 +1,3 @@
-use borrow.Author.Rules.{rules}
 use borrow.Author.Tests.{eq-eqb, ne_eqb, lt-ltb, le-ltb}
 use Rattle.v4x7.specs.Check.{limits_of}
 use Rattle.v4x7.proofs.adc_limits.Goals as goal

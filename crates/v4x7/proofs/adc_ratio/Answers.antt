@@ -1,4 +1,3 @@
-use borrow.Author.Rules.{rules}
 use mathlib.Core.Path.{sym}
 use Rattle.v4x7.specs.Check.{adc_ratio_of}
 use Rattle.v4x7.proofs.adc_ratio.Goals as goal

@@ -1,5 +1,3 @@
-use borrow.Author.Rules.{rules}
-use borrow.Author.Tests.{not-true, not-false}
 use Rattle.v4x7.specs.Check.{eth_of}
 use Rattle.v4x7.proofs.eth.Goals as goal
 

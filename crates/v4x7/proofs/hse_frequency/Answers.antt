@@ -1,4 +1,3 @@
-use borrow.Author.Rules.{rules}
 use Rattle.v4x7.proofs.hse_frequency.Goals as goal
 
 pub returns-in-Absent : goal.returns-in-Absent

@@ -1,4 +1,3 @@
-use borrow.Author.Rules.{rules}
 use Rattle.v4x7.specs.Check.{hse_present_of}
 use Rattle.v4x7.proofs.hse_present.Goals as goal
 

@@ -1,6 +1,4 @@
 use mathlib.Core.Path.{sym}
-use borrow.Author.Rules.{rules}
-use borrow.Author.Tests.{not-true, not-false}
 use Rattle.v4x7.specs.Check.{named}
 use Rattle.v4x7.proofs.named_codes.Goals as goal
 

@@ -1,5 +1,4 @@
 use mathlib.Core.Path.{sym}
-use borrow.Author.Rules.{rules}
 use Rattle.v4x7.proofs.named_dividers.Goals as goal
 
 pub returns-then-named_apb : goal.returns-then-named_apb

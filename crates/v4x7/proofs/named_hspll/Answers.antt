@@ -1,4 +1,3 @@
-use borrow.Author.Rules.{rules}
 use Rattle.v4x7.proofs.named_hspll.Goals as goal
 
 pub returns-in-From : goal.returns-in-From

@@ -1,4 +1,3 @@
-use borrow.Author.Rules.{rules}
 use Rattle.v4x7.proofs.named_pll.Goals as goal
 
 pub returns-in-Mul : goal.returns-in-Mul

@@ -1,4 +1,3 @@
-use borrow.Author.Rules.{rules}
 use borrow.Author.Tests.{eq-eqb, ne_eqb}
 use Rattle.v4x7.specs.Check.{reference_of}
 use Rattle.v4x7.proofs.reference.Goals as goal

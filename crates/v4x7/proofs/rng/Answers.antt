@@ -1,4 +1,3 @@
-use borrow.Author.Rules.{rules}
 use mathlib.Core.Path.{sym}
 use Rattle.v4x7.specs.Check.{rng_of}
 use Rattle.v4x7.proofs.rng.Goals as goal

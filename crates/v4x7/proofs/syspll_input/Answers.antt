@@ -1,4 +1,3 @@
-use borrow.Author.Rules.{rules}
 use mathlib.Core.Path.{sym}
 use Rattle.v4x7.specs.Check.{sys_pll_input_of}
 use Rattle.v4x7.proofs.syspll_input.Goals as goal

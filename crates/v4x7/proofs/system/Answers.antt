@@ -1,4 +1,3 @@
-use borrow.Author.Rules.{rules}
 use Rattle.answer.specs.Answer.{told}
 use Rattle.tree.specs.Tree.{made_says}
 use Rattle.v4x7.specs.Check.{system_of}

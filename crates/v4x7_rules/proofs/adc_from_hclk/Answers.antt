@@ -1,4 +1,3 @@
-use borrow.Author.Rules.{rules}
 use Rattle.answer.specs.Answer.{told}
 use Rattle.answer.specs.Said.{reply_says}
 use Rattle.divider.specs.declared.Family.TheVariants.{V4x7}

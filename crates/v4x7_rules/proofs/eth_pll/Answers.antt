@@ -1,4 +1,3 @@
-use borrow.Author.Rules.{rules}
 use borrow.Author.Tests.{eq-eqb, ne_eqb}
 use Rattle.answer.specs.Answer.{told}
 use Rattle.divider.specs.Frequency.{rate_says}

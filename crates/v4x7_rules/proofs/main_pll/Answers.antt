@@ -1,11 +1,8 @@
-use borrow.Author.Rules.{rules}
 use mathlib.Core.Path.{◌≡◌, sym}
 use mathlib.Core.Bool.{◌||◌}
-use native.Mathlib.Omega.{arith}
-use borrow.Author.Tests.{le-leb, lt-leb, ltb-false}
+use borrow.Author.Tests.{le-leb, lt-leb}
 use lib.Dec.{ltb}
 use Rattle.answer.specs.Answer.{gives, refuse, ◌>>◌, told}
-use Rattle.answer.specs.Tools.{neither}
 use Rattle.divider.specs.Frequency.{rate_says}
 use Rattle.tree.specs.Tree.{wide_says}
 use Rattle.v4x7_rules.specs.Rules.{main_pll_of}

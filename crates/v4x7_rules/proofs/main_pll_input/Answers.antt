@@ -1,4 +1,3 @@
-use borrow.Author.Rules.{rules}
 use Rattle.v4x7_rules.specs.Rules.{main_pll_input}
 use Rattle.v4x7_rules.proofs.main_pll_input.Goals as goal
 

@@ -1,4 +1,3 @@
-use borrow.Author.Rules.{rules}
 use borrow.Author.Tests.{le-leb, lt-leb, ne_eqb}
 use Rattle.v4x7_rules.specs.Rules.{sys_pll_of}
 use Rattle.v4x7_rules.proofs.syspll_input.Goals as goal

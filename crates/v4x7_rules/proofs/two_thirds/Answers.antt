@@ -1,4 +1,3 @@
-use borrow.Author.Rules.{rules}
 use Rattle.v4x7_rules.specs.Rules.{two_thirds}
 use Rattle.v4x7_rules.proofs.two_thirds.Goals as goal
 

@@ -1,4 +1,3 @@
-use borrow.Author.Rules.{rules}
 use Rattle.answer.specs.Answer.{told}
 use Rattle.answer.specs.Said.{outcome_says}
 use Rattle.v4x7_rules.specs.Rules.{used_hse_of}

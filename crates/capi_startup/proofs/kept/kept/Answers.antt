@@ -1,7 +1,6 @@
 use mathlib.Core.Path.{sym, ap}
 use Prim.Native.Nat.{◌≤◌}
 use native.Mathlib.Omega.{arith}
-use borrow.Author.Rules.{rules}
 use lib.ListN.{length}
 use lib.Seq.{length-take-le}
 use Rattle.answer.specs.Answer.{told, gives}

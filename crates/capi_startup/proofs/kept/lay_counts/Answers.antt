@@ -1,6 +1,5 @@
 use mathlib.Core.Path.{◌∙◌}
 use native.Mathlib.Omega.{arith}
-use borrow.Author.Rules.{rules}
 use lib.ListN.{length-set}
 use Rattle.capi_startup.specs.Kept.{counts_bytes}
 use Rattle.capi_startup.proofs.Laying.{counts_laid}

@@ -1,4 +1,3 @@
-use borrow.Author.Rules.{rules}
 use Rattle.capi_startup.proofs.Laying.{ticks_laid}
 use Rattle.capi_startup.proofs.kept.lay_ticks.Goals as goal
 

@@ -1,5 +1,4 @@
 use mathlib.Core.Path.{◌∙◌}
-use borrow.Author.Rules.{rules}
 use Rattle.capi_startup.proofs.Laying.{all_noted, first_noted}
 use Rattle.capi_startup.proofs.kept.note.Goals as goal
 

@@ -1,4 +1,3 @@
-use borrow.Author.Rules.{rules}
 use Rattle.capi_startup.specs.Kept.{standing_of}
 use Rattle.capi_startup.proofs.kept.standing.Goals as goal
 

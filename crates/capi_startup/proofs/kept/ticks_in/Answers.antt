@@ -1,4 +1,3 @@
-use borrow.Author.Rules.{rules}
 use Rattle.capi_startup.specs.Kept.{ticks_in}
 use Rattle.capi_startup.proofs.kept.ticks_in.Goals as goal
 

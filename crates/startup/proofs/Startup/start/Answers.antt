@@ -1,6 +1,4 @@
 use mathlib.Core.Path.{sym}
-use borrow.Author.Rules.{rules}
-use borrow.Author.Tests.{not-true, not-false}
 use Rattle.answer.specs.Answer.{told}
 use Rattle.v4x7.specs.Check.{checked_says}
 use Rattle.startup.specs.Call.{start_of}

@@ -1,6 +1,5 @@
 use mathlib.Core.Bool.{true, false, not}
 use mathlib.Core.Path.{◌≡◌, ◌∙◌, ap}
-use borrow.Author.Rules.{rules}
 use borrow.Author.Tests.{ltb-false}
 use Rattle.answer.specs.Tools.{neither}
 use Rattle.v4x7.specs.declared.Checked.{Checked}

@@ -1,5 +1,4 @@
 use mathlib.Core.Path.{sym}
-use borrow.Author.Rules.{rules}
 use Rattle.answer.specs.Answer.{told}
 use Rattle.tree.specs.Tree.{buses_says}
 use Rattle.startup.specs.Steps.{agrees_of}

@@ -1,4 +1,4 @@
-use mathlib.Core.Logic.{◌⊎◌, inl, inr, ⊎_elim}
+use mathlib.Core.Logic.{◌⊎◌, inl, inr}
 use mathlib.Core.Path.{◌≡◌, refl, sym, ap, ◌∙◌}
 use mathlib.Core.Bool.{Bool}
 use Prim.Native.Nat.{ℕ, ◌<◌}
@@ -45,8 +45,8 @@ pub returns-in_default : goal.returns-in_default
 returns-in_default c =
     let args = c.args in
     let outside : (args.step < 8) ⊎ (18 < args.step) =
-      elim c.in_default.branch [
-        | in_default-via-then-step-lt8 w ↦ inl (omega arith)
-        | in_default-via-else-step-lt8+else-step-lt11+else-step-lt13+else-step-lt16+else-step-lt19 w ↦ inr (omega arith)
-      ] in
+    elim c.in_default.branch [
+      | in_default-via-then-step-lt8 w ↦ inl (omega arith)
+      | in_default-via-else-step-lt8+else-step-lt11+else-step-lt13+else-step-lt16+else-step-lt19 w ↦ inr (omega arith)
+    ] in
     always args.config args.step outside (search rules) (search rules)

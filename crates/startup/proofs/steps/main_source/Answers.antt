@@ -1,4 +1,3 @@
-use borrow.Author.Rules.{rules}
 use Rattle.startup.proofs.steps.main_source.Goals as goal
 
 pub returns-in_default : goal.returns-in_default

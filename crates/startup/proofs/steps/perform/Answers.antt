@@ -1,6 +1,5 @@
 use mathlib.Core.Path.{◌≡◌, sym, ap, ◌∙◌}
 use Prim.Native.Nat.{ℕ}
-use borrow.Author.Rules.{rules}
 use Rattle.startup.specs.Steps.{work_of}
 use Rattle.startup.specs.Writes.{flash_mode}
 use Rattle.startup.specs.declared.steps.Work.{Work}

@@ -1,4 +1,3 @@
-use borrow.Author.Rules.{rules}
 use Rattle.startup.proofs.steps.prescalers.Goals as goal
 
 pub returns : goal.returns

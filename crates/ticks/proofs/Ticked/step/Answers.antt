@@ -1,4 +1,4 @@
-use Rattle.std.proofs.Common.{sym, ◌∙◌, rules}
+use Rattle.std.proofs.Common.{sym, ◌∙◌}
 use Rattle.ticks.specs.Ticks.{ticked_of}
 use Rattle.ticks.proofs.Ticked.step.Goals as goal
 

@@ -1,4 +1,3 @@
-use Rattle.std.proofs.Common.{rules}
 use Rattle.ticks.specs.Ticks.{after_of}
 use Rattle.ticks.proofs.Ticks.after.Goals as goal
 

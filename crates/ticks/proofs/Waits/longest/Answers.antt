@@ -1,4 +1,4 @@
-use Rattle.std.proofs.Common.{◌≡◌, ℕ, max, arith, rules}
+use Rattle.std.proofs.Common.{◌≡◌, ℕ, max, arith}
 use Rattle.ticks.specs.Ticks.{longest_of}
 use Rattle.ticks.proofs.Waits.longest.Goals as goal
 
