@@ -59,7 +59,7 @@ release() { exec 9>&-; }
 
 # How many crates are proved at a time: as many as there are processors and, at two gigabytes each, memory.
 at_once() {
-    awk -v most="$(nproc)" '/^MemAvailable:/ { n = int($2 / 2000000) } END { print n < 1 ? 1 : n < most ? n : most }' /proc/meminfo
+    awk -v most="$(nproc)" '/^MemAvailable:/ { n = int($2 / 2000000) } END { if (n < 1) n = 1; if (n > most) n = most; print n }' /proc/meminfo
 }
 
 # Reads what rt says, and a line `status N`. Shows a line for each of TOTAL crates that is proved, and one for what is not, with the log that says why.
