@@ -29,7 +29,7 @@ use Rattle.startup.specs.Call.{handed_back, Event, back, wrote, met, waiting, mi
 use Rattle.ticks.specs.declared.Ticked.{Ticked}
 use Rattle.ticks.specs.Ticks.{after_of, is_over, ticked_of}
 use Rattle.place.specs.Place.{leaves_as_it_was, stepped_in}
-use Rattle.place.specs.Laws.{over_stays}
+use Rattle.place.proofs.Laws.{over_stays}
 use Rattle.capi_startup.specs.Kept.{phase_of, number_at, standing_of, startup_in}
 
 -- 21 and 22 end a startup; 23 and 28 leave its place as it was.

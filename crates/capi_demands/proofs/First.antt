@@ -25,9 +25,10 @@ use Rattle.image.specs.Image as image
 use Rattle.image.specs.Order as imageOrder
 use Rattle.decoder.proofs.Order.{decode_in_order, adc_in_order, rng_in_order}
 use Rattle.startup.specs.Call.{key_of}
-use Rattle.startup.specs.Order.{append_none, owed_goes, calls_goes}
+use Rattle.startup.proofs.Order.{append_none, owed_goes, calls_goes}
 use Rattle.h4.specs.Order as order4
-use Rattle.serial.specs.Order.{divisor_tests, divisor_in_order}
+use Rattle.serial.specs.Order.{divisor_tests}
+use Rattle.serial.proofs.Order.{divisor_in_order}
 use Rattle.boards.specs.Order.{tray_tests, tray_in_order}
 use Rattle.capi_give.specs.Given.{decoder_hse, Given, number_in}
 use Rattle.demands.specs.First.{wide}

@@ -18,7 +18,7 @@ use Rattle.startup.specs.declared.Report.TheVariants.{Worked, Waiting, Running, 
 use Rattle.ticks.specs.declared.Waits.{Waits}
 use Rattle.ticks.specs.declared.Ticks.{Ticks}
 use Rattle.ticks.specs.Ticks.{spent_of, noted_of, met_of, eight_of, longest_of, meets_wait, after_of}
-use Rattle.ticks.specs.Laws.{unmet_waits}
+use Rattle.ticks.proofs.Laws.{unmet_waits}
 use Rattle.capi_startup.specs.Kept.{number_at, ticks_in, ticks_bytes, noted_bytes}
 use Rattle.capi_demands.specs.Place.{Word, SmallWaits}
 

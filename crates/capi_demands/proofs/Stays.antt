@@ -22,7 +22,8 @@ use Rattle.startup.specs.declared.Phase.{Phase}
 use Rattle.startup.specs.declared.Phase.TheVariants.{Going, Over}
 use Rattle.startup.specs.declared.Startup.{Startup}
 use Rattle.startup.specs.Call.{seen_of, going, handed_back, Event, compared, came_to, seeing, step_by, start_of, step_of}
-use Rattle.startup.specs.View.{View, off, none, spent, writes, meets, waits, misses, shows, differs, ends, view}
+use Rattle.startup.specs.View.{View, off, none, spent, writes, meets, waits, misses, shows, differs, ends}
+use Rattle.startup.proofs.View.{view}
 use Rattle.ticks.specs.declared.Ticks.{Ticks}
 use Rattle.ticks.specs.declared.Ticked.{Ticked}
 use Rattle.ticks.specs.Ticks.{after_of, begun_with, is_over, ticked_of}

@@ -20,7 +20,7 @@ use Rattle.startup.specs.declared.Phase.TheVariants.{Going, Over}
 use Rattle.startup.specs.declared.Startup.{Startup}
 use Rattle.startup.specs.declared.Stepped.{Stepped}
 use Rattle.startup.specs.Call.{number_of, handed_back, step_by, step_of}
-use Rattle.startup.specs.Order.{step_in_order, unaccepted_28}
+use Rattle.startup.proofs.Order.{step_in_order, unaccepted_28}
 use Rattle.capi_give.specs.Given.{number_in}
 use Rattle.capi_startup.specs.Order.{called_tests}
 use Rattle.capi_demands.proofs.Answers.{Known, KnownIn}

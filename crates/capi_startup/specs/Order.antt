@@ -14,7 +14,8 @@ use Rattle.startup.specs.declared.Phase.{Phase}
 use Rattle.startup.specs.declared.Phase.TheVariants.{Going, Over}
 use Rattle.startup.specs.declared.Startup.{Startup}
 use Rattle.startup.specs.Call.{number_of}
-use Rattle.startup.specs.Order.{start_tests, start_goes, step_tests}
+use Rattle.startup.specs.Order.{start_tests, step_tests}
+use Rattle.startup.proofs.Order.{start_goes}
 use Rattle.capi_startup.specs.Kept.{startup_in}
 use Rattle.capi_startup.specs.Calls.{reading_of, start_read}
 

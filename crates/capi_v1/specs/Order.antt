@@ -5,7 +5,8 @@ use Rattle.answer.specs.Order.{Test, first_of, bare, order_past}
 use Rattle.answer.specs.Lists.{order_map}
 use Rattle.layout.specs.Lent.{written}
 use Rattle.capi_give.specs.Given.{six_words, seven_words, decoder_hse}
-use Rattle.v1.specs.Order.{check_tests, check_in_order, decode_tests, decode_in_order, fields_tests, fields_in_order}
+use Rattle.v1.specs.Order.{check_tests, decode_tests, fields_tests}
+use Rattle.v1.proofs.Order.{check_in_order, decode_in_order, fields_in_order}
 use Rattle.capi_pll32.specs.Bytes.{seven_of}
 use Rattle.capi_pll32.specs.Order.{by_list, lent_order}
 use Rattle.capi_v1.specs.Calls.{chip_of, config_of, is_config, fields_in, is_fields, bytes_of, field_bytes, check_read, decode_read, init_read}

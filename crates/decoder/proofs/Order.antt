@@ -21,7 +21,7 @@ use Rattle.image.specs.declared.Fields.{Fields}
 use Rattle.image.specs.Image.{in_widths, in_width}
 use Rattle.v4x7_rules.specs.Rules.{reference_code_of, two_thirds, sys_pll_of, buses_of}
 use Rattle.v4x7_rules.specs.Plain.{outside, allowed, reference_code}
-use Rattle.v4x7_rules.specs.Order.{used_hse_else, main_pll_else, eth_pll_else, reference_code_else, buses_else, adc_from_hclk_else, adc_from_usbhs_else}
+use Rattle.v4x7_rules.proofs.Order.{used_hse_else, main_pll_else, eth_pll_else, reference_code_else, buses_else, adc_from_hclk_else, adc_from_usbhs_else}
 use Rattle.decoder.specs.Decode.{usb_hs_reference_of, usb_hs_pll_of, sys_pll_input_of, in_use_of, decode_of}
 use Rattle.decoder.specs.Queries.{adc_ratio_of, adc_query_of, rng_query_of}
 use Rattle.decoder.specs.Order.{reference_hz, sysclk_hz, decode_tests, query_tests}

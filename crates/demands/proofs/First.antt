@@ -18,7 +18,7 @@ use Rattle.tree.specs.Tree.{buses_says, bus_says, buses_settled}
 use Rattle.tree.specs.Order.{below_else, clocks_else}
 use Rattle.v4x7_rules.specs.Rules.{ratio_says, ratio_settled, hse_in_range}
 use Rattle.v4x7_rules.specs.Plain.{outside}
-use Rattle.v4x7_rules.specs.Order as rules
+use Rattle.v4x7_rules.proofs.Order as rules
 use Rattle.v4x7.specs.declared.Config.{Config}
 use Rattle.v4x7.specs.Check.{checked_says, checked_settled}
 use Rattle.v4x7.specs.Order.{check_tests}
@@ -32,20 +32,20 @@ use Rattle.image.specs.Order as imageOrder
 use Rattle.decoder.specs.Queries.{query_says, query_settled}
 use Rattle.decoder.proofs.Order.{decode_in_order, adc_in_order, rng_in_order}
 use Rattle.startup.specs.Call.{started_says, started_settled}
-use Rattle.startup.specs.Order.{step_in_order, unaccepted_28, start_goes, waits_in_order, calls_in_order}
+use Rattle.startup.proofs.Order.{step_in_order, unaccepted_28, start_goes, waits_in_order, calls_in_order}
 use Rattle.pll32.specs.Pll as pll32
 use Rattle.pll32.specs.Laws as laws32
-use Rattle.pll32.specs.Order as order32
+use Rattle.pll32.proofs.Order as order32
 use Rattle.v1.specs.V1 as v1
-use Rattle.v1.specs.Laws as laws1
-use Rattle.v1.specs.Order as order1
+use Rattle.v1.proofs.Laws as laws1
+use Rattle.v1.proofs.Order as order1
 use Rattle.v30x.specs.V30x as v30x
-use Rattle.v30x.specs.Laws as laws30
-use Rattle.v30x.specs.Order as order30
+use Rattle.v30x.proofs.Laws as laws30
+use Rattle.v30x.proofs.Order as order30
 use Rattle.h4.specs.H4.{prescaled_says, prescaled_settled, bus_settled}
 use Rattle.h4.specs.Order as order4
 use Rattle.serial.specs.Serial.{serial_says, serial_settled}
-use Rattle.serial.specs.Order.{divisor_in_order, port_in_order}
+use Rattle.serial.proofs.Order.{divisor_in_order, port_in_order}
 use Rattle.boards.specs.Tray.{boards_in, tray_of}
 use Rattle.boards.specs.Order.{tray_in_order}
 use Rattle.report.specs.Order.{report_in_order}

@@ -20,7 +20,8 @@ use Rattle.ticks.specs.Ticks.{waits_by, ticked_of, begun_with, eight_of, maximum
 use Rattle.ticks.specs.Runs.{Handed, runs, plain, ticked, same_run}
 use Rattle.ticks.specs.Runs as ticks
 use Rattle.place.specs.Place.{started_in}
-use Rattle.place.specs.Laws.{in_place, NoneLeaves, same_place}
+use Rattle.place.specs.Laws.{in_place, NoneLeaves}
+use Rattle.place.proofs.Laws.{same_place}
 use Rattle.demands.specs.Runs.{run}
 use Rattle.demands.specs.Third.{begun, bound, Shown}
 use Rattle.demands.specs.Placed.{Calls, first_calls, readings, ticks_of_step, Demand3InPlace}

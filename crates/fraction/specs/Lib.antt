@@ -1,3 +1,2 @@
 pub mod Fraction
-pub mod Laws
 pub mod Rows

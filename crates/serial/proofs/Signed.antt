@@ -9,7 +9,7 @@ use mir.Syntax.{w32, w64}
 use mir.Val.{SFits, to_z, of_z}
 use mir.ValLaws.{to_z_pos, to_z-of_z}
 use Rattle.serial.specs.Serial.{nearest_of, error_of}
-use Rattle.serial.specs.Laws.{difference_below, error_fits}
+use Rattle.serial.proofs.Laws.{difference_below, error_fits}
 
 module _ (p r b : ℕ) (hp : p < 2 ^ 32) (hr : r < 2 ^ 32) (hb : b < 2 ^ 16) where
   below : r * b < 2 ^ 63

@@ -1,3 +1,5 @@
 pub mod Codes
 pub mod Shape
 pub mod Cases
+pub mod Order
+pub mod View

@@ -1,4 +1,3 @@
 pub mod V1
-pub mod Laws
 pub mod Rows
 pub mod Order

@@ -1,5 +1,5 @@
 -- The order of refusals of CH32V1 and CH32L1: document 01, "V1 and V30x", as flat lists over what is handed in.
--- Assumes nothing.
+-- The theorems stand in proofs/Order.antt. Assumes nothing.
 use Rattle.std.specs.Prelude.{◌≡◌, refl, Bool, true, false, cond, not, ◌&&◌, ◌||◌, List, [], ◌∷◌, ℕ, ◌*◌, ◌/◌, eqb, leb}
 use Rattle.std.proofs.Common.{subst}
 use Rattle.answer.specs.Answer.{gives, bound, same_given}
@@ -14,7 +14,8 @@ use Rattle.pll32.specs.declared.Part.{Part}
 use Rattle.pll32.specs.declared.Source.{Source}
 use Rattle.pll32.specs.declared.Source.TheVariants as from
 use Rattle.pll32.specs.Pll.{hse_frequency_of, too_wide, factor, pll_output_of}
-use Rattle.pll32.specs.Order.{from_hse, source_hz, over32, pll_order, codes_tests, codes_order, configured_where, decoded_clocks_in_order}
+use Rattle.pll32.specs.Order.{from_hse, source_hz, over32, codes_tests}
+use Rattle.pll32.proofs.Order.{pll_order, codes_order, configured_where, decoded_clocks_in_order}
 use Rattle.v1.specs.declared.Chip.{Chip}
 use Rattle.v1.specs.declared.PllPreDiv.{PllPreDiv}
 use Rattle.v1.specs.declared.PllPreDiv.TheVariants.{Div1, Div2}
@@ -60,54 +61,10 @@ check_tests chip c =
     ∷ (26, eqb c.sys 2 && not (has_pll c.pll))
     ∷ []
 
--- the PLL's part, once its code is in its field
-pll_part : (part : Part) (h : HseFrequency) (source : Source) (p : Pll) → wide_pll p ≡ false →
-    InOrder ((3, has_pll p && (from_hse source && no_hse h)) ∷ (24, has_pll p && over32 (pll_hz part h source p)) ∷ []) (configured_pll_of part h source p)
-unfolding configured_pll_of
-pll_part part h source pll.Absent narrow = record { goes = refl }
-pll_part part h source (pll.Present Div1 mul) narrow =
-    order_map output.At (pll_output_of part h (setting_of source Div1 mul)) (order_skip narrow (pll_order part h (setting_of source Div1 mul)))
-pll_part part h source (pll.Present Div2 mul) narrow =
-    order_map output.At (pll_output_of part h (setting_of source Div2 mul)) (order_skip narrow (pll_order part h (setting_of source Div2 mul)))
-
--- there is an output where a PLL is configured
-pll_there_lem : (part : Part) (h : HseFrequency) (source : Source) (p : Pll) {out : Output} → configured_pll_of part h source p ≡ gives out → no_output out ≡ not (has_pll p)
-unfolding configured_pll_of
-pll_there_lem part h source pll.Absent e = subst (λ (o : Output). no_output o ≡ true) (same_given e) refl
-pll_there_lem part h source (pll.Present prediv mul) e =
-    subst (λ (o : Output). no_output o ≡ false) (same_given (bound (pll_output_of part h (setting_of source prediv mul)) _ e).after) refl
-
-wide_pll_lem : (p : Pll) → wide_pll p ≡ leb 16 (mul_code p)
-wide_pll_lem pll.Absent = refl
-wide_pll_lem (pll.Present prediv mul) = refl
-
-check_order : (chip : Chip) (c : Config) → InOrder (check_tests chip c) (check_of chip c)
-unfolding check_of wide_config
-check_order chip c =
-    let h = hse_frequency_of c.hse in
-    let codes = too_wide c.sys c.ahb_pre c.apb1_pre c.apb2_pre in
-    let all = order_past 28 (wide_pll c.pll || codes) (λ wide.
-    let narrow = neither (wide_pll c.pll) codes wide in
-    order_bind (configured_pll_of (part_of chip) h c.pll_src c.pll) (pll_part (part_of chip) h c.pll_src c.pll narrow.0) (λ out e.
-    configured_where (part_of chip) h out c.sys c.ahb_pre c.apb1_pre c.apb2_pre
-    (pll_there_lem (part_of chip) h c.pll_src c.pll e) narrow.1)) in
-    rw (← wide_pll_lem c.pll)
-    (order_under (wide_pll c.pll) (codes_order c.sys c.ahb_pre c.apb1_pre c.apb2_pre) (order_either (wide_pll c.pll) codes all))
-
-pub check_in_order : (chip : Chip) (c : Config) → bare (check_of chip c) ≡ first_of (check_tests chip c)
-check_in_order chip c = (check_order chip c).goes
-
 -- The fields call: 28 for each code of the earlier fields, then as the check.
 
 abbrev pub fields_tests : Chip → Config → Fields → List Test
 fields_tests chip c f = (28, leb 16 f.pllmul) ∷ codes_tests f.sws f.hpre f.ppre1 f.ppre2 (check_tests chip c)
-
-pub fields_in_order : (chip : Chip) (c : Config) (f : Fields) → bare (fields_of chip c f) ≡ first_of (fields_tests chip c f)
-unfolding fields_of wide_fields
-fields_in_order chip c f =
-    let codes = too_wide f.sws f.hpre f.ppre1 f.ppre2 in
-    let all = order_past 28 (leb 16 f.pllmul || codes) (λ e. order_map (λ k. written_of c f) (check_of chip c) (check_order chip c)) in
-    (order_under (leb 16 f.pllmul) (codes_order f.sws f.hpre f.ppre1 f.ppre2) (order_either (leb 16 f.pllmul) codes all)).goes
 
 -- The decoder: 28 for each code; then, where the clock in use needs it, 3, 24.
 
@@ -122,16 +79,3 @@ decode_tests chip f h =
     ∷ (3, eqb f.sws 2 && (f.pllsrc && no_hse h))
     ∷ (24, eqb f.sws 2 && over32 (running_hz (part_of chip) f h))
     ∷ [])
-
-by_bits : (chip : Chip) (sws mul hpre ppre1 ppre2 : ℕ) (h : HseFrequency) (pllsrc pllxtpre hsipre : Bool) →
-    let f : Fields =
-    record { sws = sws; pllsrc = pllsrc; pllxtpre = pllxtpre; pllmul = mul; hpre = hpre; ppre1 = ppre1; ppre2 = ppre2; hsipre = hsipre } in
-    bare (decode_of chip f h) ≡ first_of (decode_tests chip f h)
-unfolding decode_of setting_in
-by_bits chip sws mul hpre ppre1 ppre2 h true true hsipre = decoded_clocks_in_order (part_of chip) h (record { source = from.Hse; prediv = 1; mul = mul }) sws hpre ppre1 ppre2
-by_bits chip sws mul hpre ppre1 ppre2 h true false hsipre = decoded_clocks_in_order (part_of chip) h (record { source = from.Hse; prediv = 0; mul = mul }) sws hpre ppre1 ppre2
-by_bits chip sws mul hpre ppre1 ppre2 h false pllxtpre true = decoded_clocks_in_order (part_of chip) h (record { source = from.Hsi; prediv = 0; mul = mul }) sws hpre ppre1 ppre2
-by_bits chip sws mul hpre ppre1 ppre2 h false pllxtpre false = decoded_clocks_in_order (part_of chip) h (record { source = from.Hsi; prediv = 1; mul = mul }) sws hpre ppre1 ppre2
-
-pub decode_in_order : (chip : Chip) (f : Fields) (h : HseFrequency) → bare (decode_of chip f h) ≡ first_of (decode_tests chip f h)
-decode_in_order chip f h = by_bits chip f.sws f.pllmul f.hpre f.ppre1 f.ppre2 h f.pllsrc f.pllxtpre f.hsipre

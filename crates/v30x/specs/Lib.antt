@@ -1,4 +1,3 @@
 pub mod V30x
-pub mod Laws
 pub mod Rows
 pub mod Order

@@ -20,7 +20,7 @@ use Rattle.tree.specs.declared.Output.{Output}
 use Rattle.tree.specs.declared.Output.TheVariants as output
 use Rattle.v4x7_rules.specs.Rules.{hse_in_range, used_hse_of, reference_code_of, two_thirds, sys_pll_of, buses_of}
 use Rattle.v4x7_rules.specs.Plain.{outside, main_pll_hz, allowed, sys_pll_hz}
-use Rattle.v4x7_rules.specs.Order.{used_hse_else, main_pll_else, eth_pll_else, reference_code_else, buses_else, adc_from_hclk_else, adc_from_usbhs_else}
+use Rattle.v4x7_rules.proofs.Order.{used_hse_else, main_pll_else, eth_pll_else, reference_code_else, buses_else, adc_from_hclk_else, adc_from_usbhs_else}
 use Rattle.v4x7.specs.declared.Hse.{Hse}
 use Rattle.v4x7.specs.declared.Hse.TheVariants as hse
 use Rattle.v4x7.specs.declared.Pll.{Pll}

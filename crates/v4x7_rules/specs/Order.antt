@@ -1,5 +1,5 @@
 -- The order of the rules' refusals: a flat list for each rule, and that the rule refuses by the first of its list, or else gives its plain number.
--- Assumes nothing.
+-- The theorems stand in proofs/Order.antt. Assumes nothing.
 use Rattle.std.specs.Prelude.{◌≡◌, refl, Bool, true, false, cond, not, ◌&&◌, ◌||◌, List, [], ◌∷◌, ℕ, zero, suc, ◌+◌, ◌*◌, ◌/◌, ltb, leb, eqb}
 use Rattle.std.proofs.Common.{ap, arith, le-leb}
 use Rattle.answer.specs.Answer.{Answer, gives, refuses}
@@ -21,14 +21,6 @@ use Rattle.v4x7_rules.specs.Plain.{outside, main_pll_hz, allowed, reference_code
 abbrev pub used_hse_tests : HseFrequency → List Test
 used_hse_tests h = (3, no_hse h) ∷ (4, outside 5000000 32000000 (hse_hz h)) ∷ []
 
-pub used_hse_else : (h : HseFrequency) → OrElse (used_hse_tests h) (whole (hse_hz h)) (used_hse_of h)
-unfolding used_hse_of hse_in_range
-used_hse_else hse.Absent = record { is = refl }
-used_hse_else (hse.Hz hz) = else_not (else_past 4 (outside 5000000 32000000 hz) (λ e. else_gives))
-
-pub used_hse_in_order : (h : HseFrequency) → bare (used_hse_of h) ≡ first_of (used_hse_tests h)
-used_hse_in_order h = (else_order (used_hse_else h)).goes
-
 -- the main PLL: 28; 3, 4 where its source is HSE; 5
 abbrev pub main_pll_tests : HseFrequency → Bool → ℕ → List Test
 main_pll_tests h source mul =
@@ -38,43 +30,9 @@ main_pll_tests h source mul =
     ∷ (5, outside 100000000 400000000 (main_pll_hz h source mul))
     ∷ []
 
-input_else : (h : HseFrequency) (source : Bool) →
-    OrElse ((3, source && no_hse h) ∷ (4, source && outside 5000000 32000000 (hse_hz h)) ∷ []) (whole (cond source (hse_hz h) 20000000)) (main_pll_input h source)
-unfolding main_pll_input
-input_else h true = used_hse_else h
-input_else h false = else_not (else_not else_gives)
-
-pub main_pll_else : (h : HseFrequency) (source : Bool) (mul : ℕ) → OrElse (main_pll_tests h source mul) (whole (main_pll_hz h source mul)) (main_pll_of h source mul)
-unfolding main_pll_of over
-main_pll_else h source mul =
-    else_past 28 (leb 32 mul) (λ e. else_bind (input_else h source) (λ x e. rw e (else_past 5 (outside 100000000 400000000 (main_pll_hz h source mul)) (λ e. else_gives))))
-
-pub main_pll_in_order : (h : HseFrequency) (source : Bool) (mul : ℕ) → bare (main_pll_of h source mul) ≡ first_of (main_pll_tests h source mul)
-main_pll_in_order h source mul = (else_order (main_pll_else h source mul)).goes
-
 -- the ETH PLL: 3, 4, 6
 abbrev pub eth_pll_tests : HseFrequency → List Test
 eth_pll_tests h = (3, no_hse h) ∷ (4, outside 5000000 32000000 (hse_hz h)) ∷ (6, not (eqb (hse_hz h) 25000000)) ∷ []
-
-pub eth_pll_else : (h : HseFrequency) → OrElse (eth_pll_tests h) tt (eth_pll_of h)
-unfolding eth_pll_of
-eth_pll_else h = else_bind (used_hse_else h) (λ x e. rw e (else_refuse 6 (not (eqb (hse_hz h) 25000000))))
-
-pub eth_pll_in_order : (h : HseFrequency) → bare (eth_pll_of h) ≡ first_of (eth_pll_tests h)
-eth_pll_in_order h = (else_order (eth_pll_else h)).goes
-
--- the code of a reference: 8
-pub reference_code_else : (hz : ℕ) → OrElse ((8, not (allowed hz)) ∷ []) (reference_code hz) (reference_code_of hz)
-unfolding reference_code_of
-reference_code_else hz = cases (eqb hz 25000000) (eqb hz 20000000) (eqb hz 24000000) (eqb hz 32000000)
-  where
-    cases : (a b c d : Bool) → OrElse ((8, not (a || b || c || d)) ∷ []) (cond a 0 (cond b 1 (cond c 2 3)))
-        (cond {A = Answer ℕ} a (gives 0) (cond b (gives 1) (cond c (gives 2) (cond d (gives 3) (refuses 8)))))
-    cases true b c d = else_not else_gives
-    cases false true c d = else_not else_gives
-    cases false false true d = else_not else_gives
-    cases false false false true = else_not else_gives
-    cases false false false false = record { is = refl }
 
 -- SYSPLL's input: 28; 9 where its source is the main PLL and there is none; 19
 abbrev pub sys_pll_tests : ℕ → Output → List Test
@@ -83,23 +41,6 @@ sys_pll_tests source main =
     ∷ (9, eqb source 6 && no_output main)
     ∷ (19, eqb source 4 || eqb source 5 || eqb source 7)
     ∷ []
-
-pub sys_pll_else : (source : ℕ) (main : Output) → OrElse (sys_pll_tests source main) (whole (sys_pll_hz source (output_hz main))) (sys_pll_of source main)
-unfolding sys_pll_of two_thirds over
-sys_pll_else zero main = record { is = refl }
-sys_pll_else (suc zero) main = record { is = refl }
-sys_pll_else (suc (suc zero)) main = record { is = refl }
-sys_pll_else (suc (suc (suc zero))) main = record { is = refl }
-sys_pll_else (suc (suc (suc (suc zero)))) main = record { is = refl }
-sys_pll_else (suc (suc (suc (suc (suc zero))))) main = record { is = refl }
-sys_pll_else (suc (suc (suc (suc (suc (suc zero)))))) output.Absent = record { is = refl }
-sys_pll_else (suc (suc (suc (suc (suc (suc zero)))))) (output.At main) = record { is = refl }
-sys_pll_else (suc (suc (suc (suc (suc (suc (suc zero))))))) main = record { is = refl }
-sys_pll_else (suc (suc (suc (suc (suc (suc (suc (suc n)))))))) main =
-    rw (le-leb 8 (suc (suc (suc (suc (suc (suc (suc (suc n)))))))) (omega arith)) (record { is = refl })
-
-pub sys_pll_in_order : (source : ℕ) (main : Output) → bare (sys_pll_of source main) ≡ first_of (sys_pll_tests source main)
-sys_pll_in_order source main = (else_order (sys_pll_else source main)).goes
 
 -- the six clocks: 28 for each code, then 12
 abbrev pub buses_tests : Frequency → ℕ → ℕ → ℕ → List Test
@@ -110,40 +51,10 @@ buses_tests sys ahb apb1 apb2 =
     ∷ (12, ltb 200000000 (sys.hz / ahb_divisor V4x7 ahb))
     ∷ []
 
-pub buses_else : (sys : Frequency) (ahb apb1 apb2 : ℕ) →
-    OrElse (buses_tests sys ahb apb1 apb2) (clocks_at V4x7 sys ahb apb1 apb2) (buses_of sys ahb apb1 apb2)
-unfolding buses_of over
-buses_else sys ahb apb1 apb2 =
-    else_bind (clocks_else V4x7 sys ahb apb1 apb2) (λ k e. rw e (else_past 12 (ltb 200000000 (sys.hz / ahb_divisor V4x7 ahb)) (λ e. else_gives)))
-
-pub buses_in_order : (sys : Frequency) (ahb apb1 apb2 : ℕ) → bare (buses_of sys ahb apb1 apb2) ≡ first_of (buses_tests sys ahb apb1 apb2)
-buses_in_order sys ahb apb1 apb2 = (else_order (buses_else sys ahb apb1 apb2)).goes
-
 -- the ADC's whole divisor
 abbrev pub total_divisor : ℕ → ℕ → ℕ → ℕ
 total_divisor first ppre2 adcpre = first * apb_divisor ppre2 * (2 * (adcpre + 1))
 
-total_else : (first ppre2 adcpre : ℕ) → OrElse ((28, leb 4 adcpre) ∷ (28, leb 8 ppre2) ∷ []) (total_divisor first ppre2 adcpre) (total_of first ppre2 adcpre)
-unfolding total_of
-total_else first ppre2 adcpre =
-    else_past 28 (leb 4 adcpre) (λ e. else_bind (apb_else ppre2) (λ p e. else_known (ap (λ (n : ℕ). first * n * (2 * (adcpre + 1))) e)))
-
-pub adc_from_hclk_else : (sys hpre ppre2 adcpre : ℕ) →
-    OrElse ((28, leb 16 hpre) ∷ (28, leb 4 adcpre) ∷ (28, leb 8 ppre2) ∷ []) (sys, total_divisor (ahb_divisor V4x7 hpre) ppre2 adcpre)
-    (adc_from_hclk_of sys hpre ppre2 adcpre)
-unfolding adc_from_hclk_of
-adc_from_hclk_else sys hpre ppre2 adcpre =
-    else_bind (ahb_else V4x7 hpre) (λ a e. rw e (else_bind (total_else (ahb_divisor V4x7 hpre) ppre2 adcpre) (λ t e. else_known (ap (λ (n : ℕ). (sys, n)) e))))
-
 -- the ADC on the USBHS PLL: 28 for each code, then 14
 abbrev pub adc_from_usb_hs_tests : ℕ → ℕ → ℕ → List Test
 adc_from_usb_hs_tests d ppre2 adcpre = (28, leb 4 adcpre) ∷ (28, leb 8 ppre2) ∷ (14, outside 1 32 d) ∷ []
-
-pub adc_from_usbhs_else : (d ppre2 adcpre : ℕ) →
-    OrElse (adc_from_usb_hs_tests d ppre2 adcpre) (480000000, total_divisor d ppre2 adcpre) (adc_from_usb_hs_of d ppre2 adcpre)
-unfolding adc_from_usb_hs_of
-adc_from_usbhs_else d ppre2 adcpre =
-    else_bind (total_else d ppre2 adcpre) (λ t e. rw e (else_past 14 (outside 1 32 d) (λ e. else_gives)))
-
-pub adc_from_usbhs_in_order : (d ppre2 adcpre : ℕ) → bare (adc_from_usb_hs_of d ppre2 adcpre) ≡ first_of (adc_from_usb_hs_tests d ppre2 adcpre)
-adc_from_usbhs_in_order d ppre2 adcpre = (else_order (adc_from_usbhs_else d ppre2 adcpre)).goes

@@ -1,6 +1,6 @@
 use mathlib.Core.Path.{sym, ◌∙◌}
 use native.Mathlib.Omega.{arith}
-use Rattle.fraction.specs.Laws.{gcd_zero, gcd_step}
+use Rattle.fraction.proofs.Laws.{gcd_zero, gcd_step}
 use Rattle.fraction.proofs.+gcd.Goals as goal
 
 pub returns-then-b-eq0 : goal.returns-then-b-eq0

@@ -2,7 +2,7 @@ use native.Mathlib.Omega.{arith}
 use Prim.Native.Nat.{◌<◌}
 use borrow.Author.Tests.{eq-eqb, ne_eqb}
 use Rattle.fraction.specs.Fraction.{lowest_of}
-use Rattle.fraction.specs.Laws.{gcd_pos}
+use Rattle.fraction.proofs.Laws.{gcd_pos}
 use Rattle.fraction.proofs.lowest.Goals as goal
 use Rattle.fraction.proofs.lowest.Goals.{After-gcd-common}
 
