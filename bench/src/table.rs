@@ -119,11 +119,9 @@ const TRAYS: [(&str, &str); 2] = [
 ];
 /// What a board of a tray may take beside its read and check.
 const BESIDE: f64 = 100.0;
-/// What an export takes for its slice, beside the bit reader itself: it puts another pointer in place of a null one.
-const NULL: f64 = 5.0;
 /// What a call of the readers may take, and a call of a startup.
 const CALLS: [(&str, f64); 3] = [
-    ("32 bits at any place (fast)", 64.0 + NULL),
+    ("32 bits at any place (fast)", 64.0),
     ("profile read alone", 350.0),
     ("startup, the dearest call", 1500.0),
 ];

@@ -26,7 +26,7 @@ use Rattle.startup.specs.View.{View, off, none, spent, writes, meets, waits, mis
 use Rattle.startup.proofs.View.{view}
 use Rattle.ticks.specs.declared.Ticked.{Ticked}
 use Rattle.ticks.specs.Ticks.{after_of, is_over, ticked_of}
-use Rattle.ticks.specs.Runs.{Handed, Call, runs, plain, ticked}
+use Rattle.ticks.specs.Runs.{Handed, runs, plain, ticked}
 use Rattle.place.specs.Place.{leaves_as_it_was, stepped_in, started_in}
 use Rattle.place.specs.Laws.{NoneLeaves, in_place}
 

@@ -1,5 +1,5 @@
 -- The theorems on what specs/Order.antt defines. Assumes nothing.
-use Rattle.std.specs.Prelude.{◌≡◌, refl, Bool, true, false, cond, ◌&&◌, ◌||◌, List, [], ◌∷◌, ℕ, ◌+◌, ◌*◌, ◌/◌, eqb, leb, ltb}
+use Rattle.std.specs.Prelude.{◌≡◌, refl, Bool, true, false, cond, ◌&&◌, ◌||◌, List, [], ◌∷◌, ℕ, eqb, leb}
 use Rattle.std.proofs.Common.{◌∙◌, sym, ap, subst, eqb-true}
 use Rattle.answer.specs.Answer.{Answer}
 use Rattle.answer.specs.Order.{Test, first_of, bare, InOrder, only, order_gives, order_past, order_bind, order_else, OrElse, else_gives, else_not, else_order}
@@ -12,12 +12,12 @@ use Rattle.tree.specs.declared.HseFrequency.TheVariants as hse
 use Rattle.tree.specs.declared.Output.{Output}
 use Rattle.tree.specs.declared.Output.TheVariants as output
 use Rattle.tree.specs.Tree.{clocks_of}
-use Rattle.tree.specs.Order.{no_hse, hse_hz, no_output, clocks_else}
+use Rattle.tree.specs.Order.{no_hse, no_output, clocks_else}
 use Rattle.pll32.specs.declared.Part.{Part}
 use Rattle.pll32.specs.declared.Source.{Source}
 use Rattle.pll32.specs.declared.Source.TheVariants as source
 use Rattle.pll32.specs.declared.Setting.{Setting}
-use Rattle.pll32.specs.Pll.{hsi_of, factor, too_wide, wide_setting, family_of, needed_hse_of, source_frequency_of, multiplied_of, pll_output_of, pll_as_sysclk_of, sysclk_of, configured_clocks_of, decoded_sysclk_of, decoded_clocks_of}
+use Rattle.pll32.specs.Pll.{hsi_of, too_wide, wide_setting, family_of, needed_hse_of, source_frequency_of, multiplied_of, pll_output_of, pll_as_sysclk_of, sysclk_of, configured_clocks_of, decoded_sysclk_of, decoded_clocks_of}
 use Rattle.pll32.specs.Order.{codes_tests, configured_tests, decoded_tests, in_use_tests, over32, pll_output_tests, pll_tests, product_hz, source_hz, source_tests, sysclk_tests}
 
 pub source_else : (s : Source) (h : HseFrequency) → OrElse (source_tests s h) (whole (source_hz s h)) (source_frequency_of s h)

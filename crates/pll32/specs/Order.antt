@@ -1,24 +1,15 @@
 -- The order of refusals that V1, L1 and V30x share: document 01, "V1 and V30x", each part as a flat list of tests over what it takes.
 -- The theorems stand in proofs/Order.antt. Assumes nothing.
-use Rattle.std.specs.Prelude.{◌≡◌, refl, Bool, true, false, cond, ◌&&◌, ◌||◌, List, [], ◌∷◌, ℕ, ◌+◌, ◌*◌, ◌/◌, eqb, leb, ltb}
-use Rattle.std.proofs.Common.{◌∙◌, sym, ap, subst, eqb-true}
-use Rattle.answer.specs.Answer.{Answer}
-use Rattle.answer.specs.Order.{Test, first_of, bare, InOrder, only, order_gives, order_past, order_bind, order_else, OrElse, else_gives, else_not, else_order}
-use Rattle.answer.specs.Tools.{neither}
-use Rattle.answer.specs.Lists.{order_either, order_under, order_skip, order_map, only_none, only_all}
-use Rattle.divider.specs.declared.Frequency.{Frequency}
-use Rattle.divider.specs.Frequency.{whole, over}
+use Rattle.std.specs.Prelude.{Bool, true, false, cond, ◌&&◌, List, [], ◌∷◌, ℕ, ◌+◌, ◌*◌, ◌/◌, eqb, leb, ltb}
+use Rattle.answer.specs.Order.{Test}
 use Rattle.tree.specs.declared.HseFrequency.{HseFrequency}
-use Rattle.tree.specs.declared.HseFrequency.TheVariants as hse
 use Rattle.tree.specs.declared.Output.{Output}
-use Rattle.tree.specs.declared.Output.TheVariants as output
-use Rattle.tree.specs.Tree.{clocks_of}
-use Rattle.tree.specs.Order.{no_hse, hse_hz, no_output, clocks_else}
+use Rattle.tree.specs.Order.{no_hse, hse_hz, no_output}
 use Rattle.pll32.specs.declared.Part.{Part}
 use Rattle.pll32.specs.declared.Source.{Source}
 use Rattle.pll32.specs.declared.Source.TheVariants as source
 use Rattle.pll32.specs.declared.Setting.{Setting}
-use Rattle.pll32.specs.Pll.{hsi_of, factor, too_wide, wide_setting, family_of, needed_hse_of, source_frequency_of, multiplied_of, pll_output_of, pll_as_sysclk_of, sysclk_of, configured_clocks_of, decoded_sysclk_of, decoded_clocks_of}
+use Rattle.pll32.specs.Pll.{factor}
 
 abbrev pub from_hse : Source → Bool
 from_hse source.Hsi = false

@@ -1,11 +1,11 @@
 -- The theorems on what specs/Order.antt defines. Assumes nothing.
-use Rattle.std.specs.Prelude.{◌≡◌, refl, Bool, true, false, cond, not, ◌&&◌, ◌||◌, List, [], ◌∷◌, ℕ, ◌*◌, ◌<◌, ltb, leb, eqb, ℤ}
+use Rattle.std.specs.Prelude.{◌≡◌, refl, Bool, true, false, cond, not, ◌&&◌, ◌||◌, [], ◌∷◌, ℕ, ◌*◌, ◌<◌, ltb, leb, eqb, ℤ}
 use Rattle.std.proofs.Math.Path.{sym}
 use Rattle.std.proofs.Common.{ap, ◌∙◌, div-lt_iff_lt-mul, le-div_iff_mul-le}
 use native.Mathlib.Omega.{arith}
 use borrow.Author.Tests.{ltb-true, ltb-false, lt-ltb, le-ltb, le-leb, lt-leb, eqb-false}
 use Rattle.answer.specs.Answer.{Answer, gives, refuses, refuse, ◌>>=◌, ◌>>◌}
-use Rattle.answer.specs.Order.{Test, first_of, bare, InOrder, order_gives, order_past}
+use Rattle.answer.specs.Order.{first_of, bare, InOrder, order_gives, order_past}
 use Rattle.answer.specs.Lists.{order_either}
 use Rattle.answer.specs.Tools.{cases}
 use Rattle.tree.specs.declared.Clocks.{Clocks}

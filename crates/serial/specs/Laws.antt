@@ -1,14 +1,8 @@
 -- What document 02 says of BRR and its error, over every PCLK and every rate above 0.
 -- The theorems stand in proofs/Laws.antt. Assumes nothing.
-use Rattle.std.specs.Prelude.{◌≡◌, refl, Bool, true, false, cond, ◌||◌, ◌↔◌, ℕ, zero, suc, ◌+◌, ◌-◌, ◌*◌, ◌/◌, ◌^◌, ◌<◌, ◌≤◌, ltb, eqb}
-use Rattle.std.proofs.Common.{sym, ap, subst, ◌∙◌, mul-le-mul, le_refl, le_antisymm, mul-suc, mul-add, mul-one, mul_assoc, mul_comm, arith, ltb-true, ltb-false}
+use Rattle.std.specs.Prelude.{◌≡◌, ◌↔◌, ℕ, ◌+◌, ◌-◌, ◌*◌, ◌<◌, ◌≤◌}
 use Rattle.std.specs.Int.{◌∣◌}
-use Rattle.std.proofs.Math.Nat.{mul-div-le, lt-mul-div-succ, dvd-mul_right, div-mul_cancel}
-use lib.IntN.{ℤ, pos, negsuc, ◌+ℤ◌, ◌-ℤ◌, +ℤ_invr, -ℤ-+ℤ_cancel}
-use Rattle.std.specs.Int.Signed.{mag}
-use Rattle.answer.specs.Answer.{gives, passed, same_given}
-use Rattle.answer.specs.Tools.{cases}
-use Rattle.serial.specs.Serial.{nearest_of, error_of, divisor_of}
+use lib.IntN.{ℤ, pos, ◌+ℤ◌}
 
 -- how far two numbers are apart
 abbrev pub apart : ℕ → ℕ → ℕ

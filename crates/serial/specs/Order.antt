@@ -1,16 +1,8 @@
 -- Why a serial divisor is refused, in document 02's order. That BRR is outside 16..65,535 is said of the quotient: it is below 15.5, or 65,535.5 and more.
 -- The theorems stand in proofs/Order.antt. Assumes nothing.
-use Rattle.std.specs.Prelude.{◌≡◌, refl, Bool, true, false, cond, not, ◌&&◌, ◌||◌, List, [], ◌∷◌, ℕ, ◌*◌, ◌<◌, ltb, leb, eqb, ℤ}
-use Rattle.std.proofs.Math.Path.{sym}
-use Rattle.std.proofs.Common.{ap, ◌∙◌, div-lt_iff_lt-mul, le-div_iff_mul-le}
-use native.Mathlib.Omega.{arith}
-use borrow.Author.Tests.{ltb-true, ltb-false, lt-ltb, le-ltb, le-leb, lt-leb, eqb-false}
-use Rattle.answer.specs.Answer.{Answer, gives, refuses, refuse, ◌>>=◌, ◌>>◌}
-use Rattle.answer.specs.Order.{Test, first_of, bare, InOrder, order_gives, order_past}
-use Rattle.answer.specs.Lists.{order_either}
-use Rattle.answer.specs.Tools.{cases}
+use Rattle.std.specs.Prelude.{cond, not, ◌&&◌, List, [], ◌∷◌, ℕ, ◌*◌, ltb, leb, eqb}
+use Rattle.answer.specs.Order.{Test}
 use Rattle.tree.specs.declared.Clocks.{Clocks}
-use Rattle.serial.specs.Serial.{nearest_of, divisor_of, port_of}
 
 -- 33: rate 0; 34: PCLK / rate below 15.5, or 65,535.5 and more
 abbrev pub divisor_tests : ℕ → ℕ → List Test

@@ -3,7 +3,6 @@ use Rattle.std.specs.Prelude.{ℕ, ◌+◌, ◌*◌, ◌≡◌, refl, Bool, true
 use Rattle.std.proofs.Common.{ap, ◌∙◌}
 use Rattle.answer.specs.Answer.{Answer, gives, refuses}
 use Rattle.answer.specs.Order.{Test, first_of, bare, InOrder, order_past, order_gives, order_bind, order_then}
-use Rattle.tree.specs.declared.Clocks.{Clocks}
 use Rattle.v4x7.specs.declared.Config.{Config}
 use Rattle.v4x7.specs.declared.ClockRecord.{ClockRecord}
 use Rattle.v4x7.specs.Check.{named_of, check_of}
@@ -13,12 +12,11 @@ use Rattle.startup.specs.Steps.{listed_of, next_of, work_of}
 use Rattle.startup.specs.declared.steps.Work.{Work}
 use Rattle.startup.specs.declared.steps.Work.TheVariants.{Wrote, Waits, Reads, Compares, NotListed}
 use Rattle.startup.specs.declared.Reading.{Reading}
-use Rattle.startup.specs.declared.Report.{Report}
 use Rattle.startup.specs.declared.Phase.{Phase}
 use Rattle.startup.specs.declared.Phase.TheVariants.{Going}
 use Rattle.startup.specs.declared.Startup.{Startup}
 use Rattle.startup.specs.declared.Stepped.{Stepped}
-use Rattle.startup.specs.Call.{number_of, seen_of, mode_read, handed_back, back, met, waiting, missed, misread, compared, came_to, event_of, call_of, seeing, step_by, step_of}
+use Rattle.startup.specs.Call.{seen_of, mode_read, handed_back, back, met, waiting, missed, misread, compared, came_to, event_of, call_of, seeing, step_by, step_of}
 use Rattle.startup.specs.Call.{going, start_of, waits_owed_of, call_bound_of}
 use Rattle.startup.specs.Order.{owed_tests, start_tests, step_tests, told_by, work_tests}
 

@@ -1,14 +1,13 @@
 -- The theorems on what specs/View.antt defines. Assumes nothing.
-use Rattle.std.specs.Prelude.{ℕ, ◌+◌, ◌≤◌, ◌<◌, ◌≡◌, refl, Bool, true, false, cond, not, ◌||◌, eqb, leb}
+use Rattle.std.specs.Prelude.{ℕ, ◌+◌, ◌≤◌, ◌≡◌, refl, Bool, true, false, cond, not, ◌||◌, eqb, leb}
 use Rattle.std.proofs.Common.{arith, ltb-true, ltb-false, leb-true, leb-false}
 use Rattle.std.proofs.Math.Dec.{ltb}
 use Rattle.answer.specs.Tools.{neither}
-use Rattle.image.specs.declared.Fields.{Fields}
 use Rattle.startup.specs.declared.steps.Work.{Work}
 use Rattle.startup.specs.declared.steps.Work.TheVariants.{Wrote, Waits, Reads, Compares, NotListed}
 use Rattle.startup.specs.declared.Reading.{Reading}
 use Rattle.startup.specs.declared.Startup.{Startup}
-use Rattle.startup.specs.Call.{mode_read, Event, back, wrote, met, waiting, missed, misread, compared, event_of, call_of}
+use Rattle.startup.specs.Call.{mode_read, Event, event_of, call_of}
 use Rattle.startup.specs.View.{View, differs, ends, meets, misses, none, off, shows, spent, waits, writes}
 
 by_cond : (P : Event → Type 0) (b : Bool) {x y : Event} → (b ≡ true → P x) → (b ≡ false → P y) → P (cond b x y)

@@ -1,26 +1,20 @@
 -- The order of refusals, as flat lists: starting, a call of a startup that is not over, and the waits and calls owed.
 -- The theorems stand in proofs/Order.antt. Assumes nothing.
-use Rattle.std.specs.Prelude.{ℕ, ◌+◌, ◌*◌, ◌≡◌, refl, Bool, true, false, cond, not, ◌&&◌, ◌||◌, List, [], ◌∷◌, ◌++◌, eqb, ltb, leb, drop}
-use Rattle.std.proofs.Common.{ap, ◌∙◌}
+use Rattle.std.specs.Prelude.{◌+◌, Bool, true, false, cond, not, ◌&&◌, List, [], ◌∷◌, eqb, ltb, leb}
 use Rattle.answer.specs.Answer.{Answer, gives, refuses}
-use Rattle.answer.specs.Order.{Test, first_of, bare, InOrder, order_past, order_gives, order_bind, order_then}
+use Rattle.answer.specs.Order.{Test}
 use Rattle.tree.specs.declared.Clocks.{Clocks}
 use Rattle.v4x7.specs.declared.Config.{Config}
-use Rattle.v4x7.specs.declared.ClockRecord.{ClockRecord}
-use Rattle.v4x7.specs.Check.{named_of, check_of}
+use Rattle.v4x7.specs.Check.{named_of}
 use Rattle.image.specs.declared.Fields.{Fields}
 use Rattle.image.specs.Image.{in_width}
-use Rattle.startup.specs.Steps.{listed_of, next_of, work_of}
+use Rattle.startup.specs.Steps.{listed_of, work_of}
 use Rattle.startup.specs.declared.steps.Work.{Work}
 use Rattle.startup.specs.declared.steps.Work.TheVariants.{Wrote, Waits, Reads, Compares, NotListed}
 use Rattle.startup.specs.declared.Reading.{Reading}
 use Rattle.startup.specs.declared.Report.{Report}
-use Rattle.startup.specs.declared.Phase.{Phase}
-use Rattle.startup.specs.declared.Phase.TheVariants.{Going}
 use Rattle.startup.specs.declared.Startup.{Startup}
-use Rattle.startup.specs.declared.Stepped.{Stepped}
-use Rattle.startup.specs.Call.{number_of, seen_of, mode_read, handed_back, back, met, waiting, missed, misread, compared, came_to, event_of, call_of, seeing, step_by, step_of}
-use Rattle.startup.specs.Call.{going, start_of, waits_owed_of, call_bound_of}
+use Rattle.startup.specs.Call.{number_of, seen_of, mode_read}
 
 -- What a step does: it is not in the list; it waits; it waits and the reading doesn't meet it; it reads a flash mode that differs; it finds clocks that
 -- differ.

@@ -1,15 +1,12 @@
 -- One view of a call of a startup that is not over: each event that it can come to, and what is then known. A property of calls is one function over it.
 -- The theorems stand in proofs/View.antt. Assumes nothing.
-use Rattle.std.specs.Prelude.{ℕ, ◌+◌, ◌≤◌, ◌<◌, ◌≡◌, refl, Bool, true, false, cond, not, ◌||◌, eqb, leb}
-use Rattle.std.proofs.Common.{arith, ltb-true, ltb-false, leb-true, leb-false}
+use Rattle.std.specs.Prelude.{ℕ, ◌+◌, ◌≤◌, ◌<◌, ◌≡◌, Bool, true, false, not, ◌||◌}
 use Rattle.std.proofs.Math.Dec.{ltb}
-use Rattle.answer.specs.Tools.{neither}
 use Rattle.image.specs.declared.Fields.{Fields}
 use Rattle.startup.specs.declared.steps.Work.{Work}
 use Rattle.startup.specs.declared.steps.Work.TheVariants.{Wrote, Waits, Reads, Compares, NotListed}
-use Rattle.startup.specs.declared.Reading.{Reading}
 use Rattle.startup.specs.declared.Startup.{Startup}
-use Rattle.startup.specs.Call.{mode_read, Event, back, wrote, met, waiting, missed, misread, compared, event_of, call_of}
+use Rattle.startup.specs.Call.{Event, back, wrote, met, waiting, missed, misread, compared}
 
 pub data View (limit : ℕ) (s : Startup) (listed : Bool) : Work → Event → Type 0 where
   -- handed back: its step is not listed or is skipped, or its used readings pass 8,000,001; or the list is at its end; or its wait is spent

@@ -1,22 +1,21 @@
 -- The theorems on what specs/Order.antt defines. Assumes nothing.
-use Rattle.std.specs.Prelude.{◌≡◌, refl, Bool, true, false, cond, not, ◌&&◌, ◌||◌, List, [], ◌∷◌, ℕ, ◌*◌, ◌/◌, eqb, leb}
+use Rattle.std.specs.Prelude.{◌≡◌, refl, Bool, true, false, not, ◌&&◌, ◌||◌, [], ◌∷◌, ℕ, leb}
 use Rattle.std.proofs.Common.{subst}
 use Rattle.answer.specs.Answer.{gives, bound, same_given}
-use Rattle.answer.specs.Order.{Test, first_of, bare, InOrder, order_past, order_bind}
+use Rattle.answer.specs.Order.{first_of, bare, InOrder, order_past, order_bind}
 use Rattle.answer.specs.Tools.{neither}
 use Rattle.answer.specs.Lists.{order_either, order_under, order_skip, order_map}
 use Rattle.tree.specs.declared.HseFrequency.{HseFrequency}
 use Rattle.tree.specs.declared.Output.{Output}
 use Rattle.tree.specs.declared.Output.TheVariants as output
-use Rattle.tree.specs.Order.{no_hse, hse_hz, no_output}
+use Rattle.tree.specs.Order.{no_hse, no_output}
 use Rattle.pll32.specs.declared.Part.{Part}
 use Rattle.pll32.specs.declared.Source.{Source}
 use Rattle.pll32.specs.declared.Source.TheVariants as from
-use Rattle.pll32.specs.Pll.{hse_frequency_of, too_wide, factor, pll_output_of}
-use Rattle.pll32.specs.Order.{from_hse, source_hz, over32, codes_tests}
+use Rattle.pll32.specs.Pll.{hse_frequency_of, too_wide, pll_output_of}
+use Rattle.pll32.specs.Order.{from_hse, over32}
 use Rattle.pll32.proofs.Order.{pll_order, codes_order, configured_where, decoded_clocks_in_order}
 use Rattle.v1.specs.declared.Chip.{Chip}
-use Rattle.v1.specs.declared.PllPreDiv.{PllPreDiv}
 use Rattle.v1.specs.declared.PllPreDiv.TheVariants.{Div1, Div2}
 use Rattle.v1.specs.declared.Pll.{Pll}
 use Rattle.v1.specs.declared.Pll.TheVariants as pll

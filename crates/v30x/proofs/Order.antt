@@ -1,5 +1,5 @@
 -- The theorems on what specs/Order.antt defines. Assumes nothing.
-use Rattle.std.specs.Prelude.{◌≡◌, refl, Bool, true, false, cond, not, ◌&&◌, ◌||◌, List, [], ◌∷◌, ℕ, ◌+◌, ◌*◌, ◌/◌, eqb, leb}
+use Rattle.std.specs.Prelude.{◌≡◌, refl, Bool, true, false, not, ◌&&◌, ◌||◌, List, [], ◌∷◌, ℕ, ◌+◌, ◌/◌, eqb, leb}
 use Rattle.std.proofs.Common.{subst}
 use Rattle.answer.specs.Answer.{Answer, gives, bound, passed, followed, same_given, refuses_gives}
 use Rattle.answer.specs.Order.{Test, first_of, bare, InOrder, order_gives, order_refuse, order_past, order_bind, order_then, order_else}
@@ -9,11 +9,11 @@ use Rattle.divider.specs.Frequency.{over}
 use Rattle.tree.specs.declared.HseFrequency.{HseFrequency}
 use Rattle.tree.specs.declared.Output.{Output}
 use Rattle.tree.specs.declared.Output.TheVariants as output
-use Rattle.tree.specs.Order.{no_hse, hse_hz, no_output}
+use Rattle.tree.specs.Order.{no_hse, no_output}
 use Rattle.pll32.specs.declared.Part.TheVariants as part
 use Rattle.pll32.specs.declared.Source.{Source}
 use Rattle.pll32.specs.declared.Source.TheVariants as from
-use Rattle.pll32.specs.Pll.{hse_frequency_of, too_wide, wide_setting, factor, pll_output_of}
+use Rattle.pll32.specs.Pll.{hse_frequency_of, too_wide, wide_setting, pll_output_of}
 use Rattle.pll32.specs.Order.{from_hse, source_hz, over32, codes_tests}
 use Rattle.pll32.proofs.Order.{source_else, pll_order, codes_order, configured_where, decoded_order}
 use Rattle.v30x.specs.declared.PllSource.{PllSource}

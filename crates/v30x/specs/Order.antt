@@ -1,22 +1,12 @@
 -- The order of refusals of CH32V30x: document 01, "V1 and V30x", as flat lists over what is handed in.
 -- The theorems stand in proofs/Order.antt. Assumes nothing.
-use Rattle.std.specs.Prelude.{◌≡◌, refl, Bool, true, false, cond, not, ◌&&◌, ◌||◌, List, [], ◌∷◌, ℕ, ◌+◌, ◌*◌, ◌/◌, eqb, leb}
-use Rattle.std.proofs.Common.{subst}
-use Rattle.answer.specs.Answer.{Answer, gives, bound, passed, followed, same_given, refuses_gives}
-use Rattle.answer.specs.Order.{Test, first_of, bare, InOrder, order_gives, order_refuse, order_past, order_bind, order_then, order_else}
-use Rattle.answer.specs.Tools.{neither}
-use Rattle.answer.specs.Lists.{order_either, order_under, order_skip, order_not, order_map}
-use Rattle.divider.specs.Frequency.{over}
+use Rattle.std.specs.Prelude.{Bool, true, false, cond, not, ◌&&◌, List, [], ◌∷◌, ℕ, ◌+◌, ◌*◌, ◌/◌, eqb, leb}
+use Rattle.answer.specs.Order.{Test}
 use Rattle.tree.specs.declared.HseFrequency.{HseFrequency}
-use Rattle.tree.specs.declared.Output.{Output}
-use Rattle.tree.specs.declared.Output.TheVariants as output
-use Rattle.tree.specs.Order.{no_hse, hse_hz, no_output}
+use Rattle.tree.specs.Order.{no_hse, hse_hz}
 use Rattle.pll32.specs.declared.Part.TheVariants as part
-use Rattle.pll32.specs.declared.Source.{Source}
-use Rattle.pll32.specs.declared.Source.TheVariants as from
-use Rattle.pll32.specs.Pll.{hse_frequency_of, too_wide, wide_setting, factor, pll_output_of}
+use Rattle.pll32.specs.Pll.{hse_frequency_of, factor}
 use Rattle.pll32.specs.Order.{from_hse, source_hz, over32, codes_tests}
-use Rattle.pll32.proofs.Order.{source_else, pll_order, codes_order, configured_where, decoded_order}
 use Rattle.v30x.specs.declared.PllSource.{PllSource}
 use Rattle.v30x.specs.declared.PllSource.TheVariants as source
 use Rattle.v30x.specs.declared.Pll.{Pll}
@@ -25,7 +15,7 @@ use Rattle.v30x.specs.declared.HsPll.{HsPll}
 use Rattle.v30x.specs.declared.HsPll.TheVariants as hspll
 use Rattle.v30x.specs.declared.Config.{Config}
 use Rattle.v30x.specs.declared.Fields.{Fields}
-use Rattle.v30x.specs.V30x.{wide_pll, wide_hs_pll, wide_config, from_hsi, setting_of, pll_from_oscillator_of, configured_pll_of, pllx_present, reference_allowed, usbhs_of, sources_of, check_of, setting_in, wide_fields, decode_of, written_of, fields_of}
+use Rattle.v30x.specs.V30x.{pllx_present, reference_allowed}
 
 -- The PLLs, and their numbers: those of an absent one are 0.
 

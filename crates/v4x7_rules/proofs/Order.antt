@@ -1,18 +1,18 @@
 -- The theorems on what specs/Order.antt defines. Assumes nothing.
-use Rattle.std.specs.Prelude.{◌≡◌, refl, Bool, true, false, cond, not, ◌&&◌, ◌||◌, List, [], ◌∷◌, ℕ, zero, suc, ◌+◌, ◌*◌, ◌/◌, ltb, leb, eqb}
+use Rattle.std.specs.Prelude.{◌≡◌, refl, Bool, true, false, cond, not, ◌&&◌, ◌||◌, [], ◌∷◌, ℕ, zero, suc, ◌+◌, ◌*◌, ◌/◌, ltb, leb, eqb}
 use Rattle.std.proofs.Common.{ap, arith, le-leb}
 use Rattle.answer.specs.Answer.{Answer, gives, refuses}
-use Rattle.answer.specs.Order.{Test, first_of, bare, OrElse, else_gives, else_known, else_not, else_past, else_refuse, else_bind, else_order}
+use Rattle.answer.specs.Order.{first_of, bare, OrElse, else_gives, else_known, else_not, else_past, else_refuse, else_bind, else_order}
 use Rattle.divider.specs.declared.Family.TheVariants.{V4x7}
 use Rattle.divider.specs.declared.Frequency.{Frequency}
-use Rattle.divider.specs.Divide.{ahb_divisor, apb_divisor}
+use Rattle.divider.specs.Divide.{ahb_divisor}
 use Rattle.divider.specs.Frequency.{whole, over}
 use Rattle.divider.specs.Laws.{ahb_else, apb_else}
 use Rattle.tree.specs.declared.HseFrequency.{HseFrequency}
 use Rattle.tree.specs.declared.HseFrequency.TheVariants as hse
 use Rattle.tree.specs.declared.Output.{Output}
 use Rattle.tree.specs.declared.Output.TheVariants as output
-use Rattle.tree.specs.Order.{no_hse, hse_hz, no_output, output_hz, clocks_at, clocks_else}
+use Rattle.tree.specs.Order.{no_hse, hse_hz, output_hz, clocks_at, clocks_else}
 use Rattle.v4x7_rules.specs.Rules.{hse_in_range, used_hse_of, main_pll_input, main_pll_of, eth_pll_of, reference_code_of, two_thirds, sys_pll_of, buses_of, total_of, adc_from_hclk_of, adc_from_usb_hs_of}
 use Rattle.v4x7_rules.specs.Plain.{outside, main_pll_hz, allowed, reference_code, sys_pll_hz}
 use Rattle.v4x7_rules.specs.Order.{adc_from_usb_hs_tests, buses_tests, eth_pll_tests, main_pll_tests, sys_pll_tests, total_divisor, used_hse_tests}

@@ -1,21 +1,14 @@
 -- The order of the rules' refusals: a flat list for each rule, and that the rule refuses by the first of its list, or else gives its plain number.
 -- The theorems stand in proofs/Order.antt. Assumes nothing.
-use Rattle.std.specs.Prelude.{◌≡◌, refl, Bool, true, false, cond, not, ◌&&◌, ◌||◌, List, [], ◌∷◌, ℕ, zero, suc, ◌+◌, ◌*◌, ◌/◌, ltb, leb, eqb}
-use Rattle.std.proofs.Common.{ap, arith, le-leb}
-use Rattle.answer.specs.Answer.{Answer, gives, refuses}
-use Rattle.answer.specs.Order.{Test, first_of, bare, OrElse, else_gives, else_known, else_not, else_past, else_refuse, else_bind, else_order}
+use Rattle.std.specs.Prelude.{Bool, not, ◌&&◌, ◌||◌, List, [], ◌∷◌, ℕ, ◌+◌, ◌*◌, ◌/◌, ltb, leb, eqb}
+use Rattle.answer.specs.Order.{Test}
 use Rattle.divider.specs.declared.Family.TheVariants.{V4x7}
 use Rattle.divider.specs.declared.Frequency.{Frequency}
 use Rattle.divider.specs.Divide.{ahb_divisor, apb_divisor}
-use Rattle.divider.specs.Frequency.{whole, over}
-use Rattle.divider.specs.Laws.{ahb_else, apb_else}
 use Rattle.tree.specs.declared.HseFrequency.{HseFrequency}
-use Rattle.tree.specs.declared.HseFrequency.TheVariants as hse
 use Rattle.tree.specs.declared.Output.{Output}
-use Rattle.tree.specs.declared.Output.TheVariants as output
-use Rattle.tree.specs.Order.{no_hse, hse_hz, no_output, output_hz, clocks_at, clocks_else}
-use Rattle.v4x7_rules.specs.Rules.{hse_in_range, used_hse_of, main_pll_input, main_pll_of, eth_pll_of, reference_code_of, two_thirds, sys_pll_of, buses_of, total_of, adc_from_hclk_of, adc_from_usb_hs_of}
-use Rattle.v4x7_rules.specs.Plain.{outside, main_pll_hz, allowed, reference_code, sys_pll_hz}
+use Rattle.tree.specs.Order.{no_hse, hse_hz, no_output}
+use Rattle.v4x7_rules.specs.Plain.{outside, main_pll_hz}
 
 -- HSE needed: 3, then 4
 abbrev pub used_hse_tests : HseFrequency → List Test
