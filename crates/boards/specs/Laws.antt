@@ -1,11 +1,10 @@
 -- What follows of a tray: each record is its own board's, and trays lie back to back.
 -- Assumes nothing.
-use Rattle.std.specs.Prelude.{ℕ, zero, suc, ◌+◌, ◌*◌, ◌%◌, ◌<◌, ◌≤◌, ◌≡◌, refl, Bool, true, false, not, List, [], ◌∷◌, ◌++◌, eqb, ltb, length, take, drop}
+use Rattle.std.specs.Prelude.{ℕ, zero, suc, ◌+◌, ◌*◌, ◌%◌, ◌<◌, ◌≤◌, ◌≡◌, refl, Bool, true, false, not, Ok, List, [], ◌∷◌, ◌++◌, eqb, ltb, length, take, drop}
 use Rattle.std.proofs.Common.{sym, ap, ◌∙◌, append-nil, append_assoc, zero-add, arith, lt-ltb, le-ltb, ltb-true, ltb-false, length-append, length-drop, length-take-le, take_all, take_at, drop_at, drop-drop}
 use Rattle.std.proofs.lemmas.List.{take-append-le, drop-append-le}
 use Rattle.std.proofs.Math.Seq.{drop-append-add}
 use Rattle.answer.specs.Answer.{Answer, gives, refuses, refuse, ◌>>=◌, ◌>>◌, passed}
-use Rattle.answer.specs.declared.Outcome.TheVariants.{Done}
 use Rattle.layout.proofs.Writing.{held}
 use Rattle.v4x7.specs.declared.ClockRecord.{ClockRecord}
 use Rattle.profile.specs.Profile.{check_profile}
@@ -89,7 +88,7 @@ unfolding tray_of records_of
 no_boards l = rw (le-ltb (length l) 0 (omega arith))
 
 -- record i, in the lent bytes of a tray that was written
-pub record_lent : (s : List ℕ) {l l' : List ℕ} (i : ℕ) → Trayed s l l' Done → i < boards_in s → take 32 (drop (32 * i) l') ≡ board_of (take 10 (drop (10 * i) s))
+pub record_lent : (s : List ℕ) {l l' : List ℕ} (i : ℕ) → Trayed s l l' (Ok tt) → i < boards_in s → take 32 (drop (32 * i) l') ≡ board_of (take 10 (drop (10 * i) s))
 unfolding tray_of
 record_lent s {l} i w h =
     let n : ℕ = boards_in s in

@@ -1,8 +1,8 @@
 -- A tray of boards at once: document 02, K2.
 -- Assumes nothing.
-use Rattle.std.specs.Prelude.{ℕ, zero, suc, ◌*◌, ◌/◌, ◌%◌, not, List, [], ◌∷◌, ◌++◌, eqb, length, take, drop, replicate}
+use Rattle.std.specs.Prelude.{ℕ, zero, suc, ◌*◌, ◌/◌, ◌%◌, not, Result, List, [], ◌∷◌, ◌++◌, eqb, length, take, drop, replicate}
 use Rattle.answer.specs.Answer.{Answer, gives, refuses, refuse, ◌>>◌}
-use Rattle.answer.specs.declared.Outcome.{Outcome}
+use Rattle.answer.specs.declared.Refusal.{Refusal}
 use Rattle.layout.specs.Numbers.{in_fours}
 use Rattle.layout.specs.Lent.{written, Wrote}
 use Rattle.v4x7.specs.declared.ClockRecord.{ClockRecord}
@@ -39,5 +39,5 @@ abbrev pub tray_into : List ℕ → List ℕ → Answer (List ℕ)
 tray_into s l = written (32 * boards_in s) (tray_of s) l
 
 -- A tray s written into l: the answer r, and every lent byte.
-abbrev pub Trayed : List ℕ → List ℕ → List ℕ → Outcome → Type 0
+abbrev pub Trayed : List ℕ → List ℕ → List ℕ → Result (Unit {0}) Refusal → Type 0
 Trayed s l l' r = Wrote (32 * boards_in s) (tray_of s) l l' r

@@ -3,22 +3,22 @@
 
 ghost use Rattle.std.specs.Prelude.{◌≡◌, ◌+◌, ◌≤◌, length};
 ghost use Rattle.std.proofs.lemmas.List.Edits.{sets};
-ghost use Rattle.v4x7.specs.Check.{checked_says};
+ghost use Rattle.answer.specs.Said.{says};
 ghost use Rattle.layout.specs.Numbers.{in_fours};
 ghost use Rattle.boards.specs.Tray.{numbers_of, board_of, Trayed};
 
-use answer::Outcome;
-use v4x7::Checked;
+use answer::Refusal;
+use v4x7::ClockRecord;
 
 // The bytes of a board's record.
 pub const RECORD: usize = 32;
 
 // The numbers of a board's record: the refusal number or 0, then the seven frequencies in the program's order; zeros after a refusal.
-fn numbers(checked: Checked) -> [u32; 8]
-    ensures { result ≡ numbers_of (checked_says checked) }
+fn numbers(checked: Result<ClockRecord, Refusal>) -> [u32; 8]
+    ensures { result ≡ numbers_of (says checked) }
 {
-    let Checked::Accepted(accepted) = checked else {
-        return [v4x7::refused(checked) as u32, 0, 0, 0, 0, 0, 0, 0];
+    let Ok(accepted) = checked else {
+        return [u32::from(answer::number(checked)), 0, 0, 0, 0, 0, 0, 0];
     };
     let k = accepted.clocks;
     [
@@ -34,6 +34,7 @@ fn numbers(checked: Checked) -> [u32; 8]
 }
 
 // Writes the eight numbers of a record.
+#[tactic(auto, using(layout::proofs::Filling::numbers_put))]
 fn put_record(out: &mut [u8], at: usize, xs: [u32; 8])
     requires { at + 32 ≤ length out.old }
     ensures { out.new ≡ sets out.old at (in_fours xs) }
@@ -42,6 +43,7 @@ fn put_record(out: &mut [u8], at: usize, xs: [u32; 8])
 }
 
 // The record of one board. A profile that is not ten bytes is refused by 29, as its record says.
+#[tactic(auto, using(crate::proofs::Filling::its_record, crate::proofs::Filling::sets_whole, crate::specs::Laws::board_length))]
 pub fn board(profile: &[u8]) -> [u8; 32]
     ensures { result ≡ board_of profile.now }
 {
@@ -52,22 +54,19 @@ pub fn board(profile: &[u8]) -> [u8; 32]
 
 // Writes the records of all profiles, which lie back to back, at the start of out; the bytes beyond stay.
 // Refused by 32: out has fewer than 32 bytes for each whole ten of profiles. Then by 29: their length is not a multiple of ten.
-pub fn tray(profiles: &[u8], out: &mut [u8]) -> Outcome
+#[tactic(auto, using(crate::proofs::Filling::its_record, crate::proofs::Filling::board_stored, crate::proofs::Filling::too_short))]
+pub fn tray(profiles: &[u8], out: &mut [u8]) -> Result<(), Refusal>
     ensures { Trayed profiles.now out.old out.new result }
 {
     let count = profiles.len() / profile::SIZE;
     if out.len() / RECORD < count {
-        return Outcome::Refused(answer::OUTPUT_TOO_SHORT);
+        return Err(Refusal::OutputTooShort);
     }
     if profiles.len() % profile::SIZE != 0 {
-        return Outcome::Refused(answer::PROFILE_LENGTH);
+        return Err(Refusal::ProfileLength);
     }
-    let mut i = 0;
-    while i < count {
-        let at = i * profile::SIZE;
-        let checked = profile::check_profile(&profiles[at..at + profile::SIZE]);
-        put_record(out, i * RECORD, numbers(checked));
-        i += 1;
+    for (i, profile) in profiles.chunks_exact(profile::SIZE).enumerate() {
+        put_record(out, i * RECORD, numbers(profile::check_profile(profile)));
     }
-    Outcome::Done
+    Ok(())
 }

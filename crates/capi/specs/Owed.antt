@@ -1,17 +1,17 @@
 -- The keys of step 19, and a profile's waits and calls, as C and Rust ask for them.
 -- Assumes nothing.
-use Rattle.std.specs.Prelude.{ℕ, List}
+use Rattle.std.specs.Prelude.{ℕ, Option, None, Some, List}
 use Rattle.answer.specs.Answer.{Answer, gives, refuses, ◌>>=◌}
 use Rattle.profile.specs.Profile.{read_profile}
 use Rattle.startup.specs.declared.FlashKey.{FlashKey}
-use Rattle.startup.specs.declared.FlashKey.TheVariants.{Keyr, ModeKeyr, NoKey}
+use Rattle.startup.specs.declared.FlashKey.TheVariants.{Keyr, ModeKeyr}
 use Rattle.startup.specs.Call.{key_of, waits_owed_of, call_bound_of}
 
 -- a key's register, 0 KEYR or 1 MODEKEYR, and the key; 28 behind the last
-abbrev pub key_words : FlashKey → Answer (ℕ × ℕ)
-key_words (Keyr key) = gives (0, key)
-key_words (ModeKeyr key) = gives (1, key)
-key_words NoKey = refuses 28
+abbrev pub key_words : Option FlashKey → Answer (ℕ × ℕ)
+key_words (Some (Keyr key)) = gives (0, key)
+key_words (Some (ModeKeyr key)) = gives (1, key)
+key_words None = refuses 28
 
 abbrev pub key_read : ℕ → Answer (ℕ × ℕ)
 key_read position = key_words (key_of position)

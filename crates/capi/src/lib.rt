@@ -1,41 +1,29 @@
 // The clocks of CH32V4x7 for C and Rust: the check of a profile, the decoder, the two queries, and what the host of a startup owes and may count on.
 // Records come as bytes, frequencies go as words.
 // Every call answers by number: 0, or document 01's refusal, and then nothing that was lent is touched.
-#![tactic(auto)]
+#![tactic(auto, unfolding(crate::specs::Calls::decode_read, crate::specs::Calls::adc_read, crate::specs::Calls::rng_read, crate::specs::Owed::waits_read, crate::specs::Owed::calls_read))]
 
 ghost use Rattle.std.specs.Prelude.{◌≡◌};
-ghost use Rattle.answer.specs.Said.{reply_says};
-ghost use Rattle.capi_give.specs.Given.{Given, GivenOne, six_words, seven_words, sevenfold_says, two_words, twofold_says};
-ghost use Rattle.tree.specs.Tree.{buses_says};
-ghost use Rattle.decoder.specs.Queries.{query_says};
+ghost use Rattle.answer.specs.Said.{says};
+ghost use Rattle.capi_give.specs.Given.{Given, GivenOne, six_words, seven_words, two_words};
 ghost use Rattle.profile.specs.Profile.{check_profile};
 ghost use Rattle.capi.specs.Calls.{seven_of, decode_read, pair_of, adc_read, rng_read};
 ghost use Rattle.capi.specs.Owed.{key_read, waits_read, calls_read};
 
-use answer::Reply;
-use capi_give::{Sevenfold, Twofold};
-use decoder::Query;
-use image::ReadImage;
-use profile::ReadProfile;
+use answer::Refusal;
 use startup::FlashKey;
-use tree::Buses;
-use v4x7::{Checked, refused};
+use tree::Clocks;
 
 // The register of the first two keys, KEYR.
 pub const KEYR: u32 = 0;
 // The register of the other two, MODEKEYR.
 pub const MODEKEYR: u32 = 1;
 
-fn check(from: &[u8]) -> Sevenfold
-    ensures { sevenfold_says result ≡ seven_of (check_profile from.now) }
+fn check(from: &[u8]) -> Result<(Clocks, u32), Refusal>
+    ensures { says result ≡ seven_of (check_profile from.now) }
 {
-    let checked = profile::check_profile(from);
-    let Checked::Accepted(accepted) = checked else {
-        return Sevenfold::Refused(refused(checked));
-    };
-    let clocks = accepted.clocks;
-    let more = accepted.adc;
-    Sevenfold::Are { clocks, more }
+    let accepted = profile::check_profile(from)?;
+    Ok((accepted.clocks, accepted.adc))
 }
 
 // Checks a profile of ten bytes. Gives seven words: SYSCLK, HCLK, PCLK1, PCLK2, their timers' clocks, and the ADC's frequency.
@@ -47,13 +35,10 @@ pub extern "C" fn wontabeli_check(from: &[u8], out: &mut [u32]) -> u8
     capi_give::give_seven(check(from), out)
 }
 
-fn decode(from: &[u8], hz: u32) -> Buses
-    ensures { buses_says result ≡ decode_read from.now hz }
+fn decode(from: &[u8], hz: u32) -> Result<Clocks, Refusal>
+    ensures { says result ≡ decode_read from.now hz }
 {
-    match image::read_image(from) {
-        ReadImage::Refused(n) => Buses::Refused(n),
-        ReadImage::Image(fields) => decoder::decode(fields, capi_give::decoder_hse(hz)),
-    }
+    decoder::decode(image::read_image(from)?, capi_give::decoder_hse(hz))
 }
 
 // Decodes an image of eight bytes, with HSE's frequency; 0 says that there is none. Gives six words: SYSCLK, HCLK, PCLK1, PCLK2, their timers'
@@ -66,29 +51,19 @@ pub extern "C" fn wontabeli_decode(from: &[u8], hz: u32, out: &mut [u32]) -> u8
 }
 
 // A query's answer as two words.
-fn pair(query: Query) -> Twofold
-    ensures { twofold_says result ≡ pair_of (query_says query) }
+fn pair(query: Result<Option<u32>, Refusal>) -> Result<(u32, u32), Refusal>
+    ensures { says result ≡ pair_of (says query) }
 {
-    match query {
-        Query::Refused(n) => Twofold::Refused(n),
-        Query::NotReady => Twofold::Are {
-            first: 0,
-            second: 0,
-        },
-        Query::Is(hz) => Twofold::Are {
-            first: 1,
-            second: hz,
-        },
+    match query? {
+        None => Ok((0, 0)),
+        Some(hz) => Ok((1, hz)),
     }
 }
 
-fn adc(from: &[u8], sysclk: u32) -> Query
-    ensures { query_says result ≡ adc_read from.now sysclk }
+fn adc(from: &[u8], sysclk: u32) -> Result<Option<u32>, Refusal>
+    ensures { says result ≡ adc_read from.now sysclk }
 {
-    match image::read_image(from) {
-        ReadImage::Refused(n) => Query::Refused(n),
-        ReadImage::Image(fields) => decoder::adc_frequency(fields, sysclk),
-    }
+    decoder::adc_frequency(image::read_image(from)?, sysclk)
 }
 
 // The ADC's frequency by an image of eight bytes, with the SYSCLK handed in. Gives two words: 1 and the frequency; or zeros, "not ready".
@@ -100,13 +75,10 @@ pub extern "C" fn wontabeli_adc(from: &[u8], sysclk: u32, out: &mut [u32]) -> u8
     capi_give::give_two(pair(adc(from, sysclk)), out)
 }
 
-fn rng(from: &[u8], sysclk: u32) -> Query
-    ensures { query_says result ≡ rng_read from.now sysclk }
+fn rng(from: &[u8], sysclk: u32) -> Result<Option<u32>, Refusal>
+    ensures { says result ≡ rng_read from.now sysclk }
 {
-    match image::read_image(from) {
-        ReadImage::Refused(n) => Query::Refused(n),
-        ReadImage::Image(fields) => decoder::rng_source_frequency(fields, sysclk),
-    }
+    decoder::rng_source_frequency(image::read_image(from)?, sysclk)
 }
 
 // The RNG source's frequency, as `wontabeli_adc` gives the ADC's.
@@ -117,19 +89,12 @@ pub extern "C" fn wontabeli_rng(from: &[u8], sysclk: u32, out: &mut [u32]) -> u8
     capi_give::give_two(pair(rng(from, sysclk)), out)
 }
 
-fn key(position: u8) -> Twofold
-    ensures { twofold_says result ≡ key_read position }
+fn key(position: u8) -> Result<(u32, u32), Refusal>
+    ensures { says result ≡ key_read position }
 {
-    match startup::flash_key(position) {
-        FlashKey::Keyr(key) => Twofold::Are {
-            first: KEYR,
-            second: key,
-        },
-        FlashKey::ModeKeyr(key) => Twofold::Are {
-            first: MODEKEYR,
-            second: key,
-        },
-        FlashKey::NoKey => Twofold::Refused(answer::CODE_NOT_ALLOWED),
+    match startup::flash_key(position).ok_or(Refusal::CodeNotAllowed)? {
+        FlashKey::Keyr(key) => Ok((KEYR, key)),
+        FlashKey::ModeKeyr(key) => Ok((MODEKEYR, key)),
     }
 }
 
@@ -142,13 +107,10 @@ pub extern "C" fn wontabeli_flash_key(position: u8, out: &mut [u32]) -> u8
     capi_give::give_two(key(position), out)
 }
 
-fn waits(p: &[u8]) -> Reply
-    ensures { reply_says result ≡ waits_read p.now }
+fn waits(p: &[u8]) -> Result<u32, Refusal>
+    ensures { says result ≡ waits_read p.now }
 {
-    match profile::read_profile(p) {
-        ReadProfile::Refused(number) => Reply::Refused(number),
-        ReadProfile::Profile(config) => startup::waits_owed(config),
-    }
+    startup::waits_owed(profile::read_profile(p)?)
 }
 
 // How many waits the startup of a profile has. Refused by 29, 30.
@@ -159,13 +121,10 @@ pub extern "C" fn wontabeli_waits_owed(p: &[u8], out: &mut u32) -> u8
     capi_give::give_one(waits(p), out)
 }
 
-fn calls(p: &[u8]) -> Reply
-    ensures { reply_says result ≡ calls_read p.now }
+fn calls(p: &[u8]) -> Result<u32, Refusal>
+    ensures { says result ≡ calls_read p.now }
 {
-    match profile::read_profile(p) {
-        ReadProfile::Refused(n) => Reply::Refused(n),
-        ReadProfile::Profile(config) => startup::call_bound(config),
-    }
+    startup::call_bound(profile::read_profile(p)?)
 }
 
 // The startup of a profile is over within so many calls. Refused by 29, 30.

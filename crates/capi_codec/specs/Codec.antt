@@ -7,6 +7,12 @@ use Rattle.layout.specs.Bits.{cut}
 use Rattle.profile.specs.Profile as profile
 use Rattle.image.specs.Image as image
 
+-- the fields of bytes that are accepted
+abbrev pub accepted_fields : {A : Type 0} → Answer A → List ℕ → List ℕ → Answer (List ℕ)
+accepted_fields m ws s = do
+  m
+  gives (cut ws s 0)
+
 -- the fields of a record that its reader accepts
 abbrev pub fields_by : {A : Type 0} → (List ℕ → Answer A) → List ℕ → List ℕ → Answer (List ℕ)
 fields_by reader ws s = do

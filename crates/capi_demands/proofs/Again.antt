@@ -1,5 +1,6 @@
 -- A place's bytes read back as the startup with its ticks that was stored.
 -- Assumes nothing.
+use Rattle.std.specs.Prelude.{Option, None, Some}
 use Prim.Native.Nat.{ℕ, ◌+◌}
 use mathlib.Core.Path.{◌≡◌, refl, sym, ap, ◌∙◌}
 use mathlib.Core.Logic.{inl, inr}
@@ -18,8 +19,6 @@ use Rattle.image.specs.Image.{read_image, image_bytes}
 use Rattle.image.proofs.RoundTrip as image
 use Rattle.startup.specs.declared.Report.{Report}
 use Rattle.startup.specs.declared.Report.TheVariants.{Worked, Waiting, Running, Failed, Refused}
-use Rattle.startup.specs.declared.Phase.{Phase}
-use Rattle.startup.specs.declared.Phase.TheVariants.{Going, Over}
 use Rattle.startup.specs.declared.Startup.{Startup}
 use Rattle.ticks.specs.declared.Ticked.{Ticked}
 use Rattle.capi_startup.specs.Kept.{phase_of, tag_of, number_at, standing_of, startup_in, ticks_in, ticks_part, kept_of, counts_bytes, ticks_bytes}
@@ -28,15 +27,15 @@ use Rattle.capi_demands.specs.Place.{HeldPhase, Word, Storable, ReadsBack}
 use Rattle.capi_demands.proofs.Numbers.{word_back, ticks_back}
 
 -- a phase by its number
-phase_again : (h : Phase) (step used : ℕ) → HeldPhase h step used → phase_of (tag_of h) step used ≡ h
+phase_again : (h : Option Report) (step used : ℕ) → HeldPhase h step used → phase_of (tag_of h) step used ≡ h
 unfolding phase_of
-phase_again Going step used r = refl
-phase_again (Over (Worked s u)) step used r = absurd r
-phase_again (Over (Waiting s u)) step used r = absurd r
-phase_again (Over (Running s u)) step used (e, f) = rw (e, f)
-phase_again (Over (Failed n s u)) step used (inl a, e, f) = rw (a, e, f)
-phase_again (Over (Failed n s u)) step used (inr a, e, f) = rw (a, e, f)
-phase_again (Over (Refused n)) step used e = rw e
+phase_again None step used r = refl
+phase_again (Some (Worked s u)) step used r = absurd r
+phase_again (Some (Waiting s u)) step used r = absurd r
+phase_again (Some (Running s u)) step used (e, f) = rw (e, f)
+phase_again (Some (Failed n s u)) step used (inl a, e, f) = rw (a, e, f)
+phase_again (Some (Failed n s u)) step used (inr a, e, f) = rw (a, e, f)
+phase_again (Some (Refused n)) step used e = rw e
 
 pub read_length : (p : List ℕ) (c : Config) → read_profile p ≡ gives c → length p ≡ 10
 unfolding read_profile
@@ -96,16 +95,16 @@ module _ (p i k rest : List ℕ) (s : Startup) (report : Report) (ten : length p
   unfolding counts_bytes
   step_again = byte_behind 0
 
-  tag_again : get_or l 27 0 ≡ tag_of s.phase
+  tag_again : get_or l 27 0 ≡ tag_of s.over
   unfolding counts_bytes
   tag_again = byte_behind 9
 
-  standing_again : Word s.unmet → Word s.used → HeldPhase s.phase s.step s.used → standing_of s.config s.fields l ≡ s
+  standing_again : Word s.unmet → Word s.used → HeldPhase s.over s.step s.used → standing_of s.config s.fields l ≡ s
   unfolding standing_of
-  standing_again a b h = rw (step_again, unmet_again a, used_again b, tag_again, phase_again s.phase s.step s.used h)
+  standing_again a b h = rw (step_again, unmet_again a, used_again b, tag_again, phase_again s.over s.step s.used h)
 
   startup_again : read_profile p ≡ gives s.config → read_image i ≡ gives s.fields →
-      Word s.unmet → Word s.used → HeldPhase s.phase s.step s.used → startup_in l ≡ gives s
+      Word s.unmet → Word s.used → HeldPhase s.over s.step s.used → startup_in l ≡ gives s
   unfolding startup_in
   startup_again c f a b h = rw (profile_part, image_part, c, f) (ap gives (standing_again a b h))
 

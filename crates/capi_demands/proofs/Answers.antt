@@ -1,6 +1,7 @@
 -- What a call on a place can answer, whatever bytes it finds: 0, 21, 22, 23 or 28. And that it keeps the configuration, and all of a startup
 -- that is over.
 -- Assumes nothing.
+use Rattle.std.specs.Prelude.{Option, None, Some}
 use Prim.Native.Nat.{ℕ}
 use mathlib.Core.Path.{◌≡◌, refl, ap, ◌∙◌, subst}
 use mathlib.Core.Logic.{◌⊎◌, inl, inr}
@@ -21,8 +22,6 @@ use Rattle.startup.specs.Steps.{next_of}
 use Rattle.startup.specs.declared.Reading.{Reading}
 use Rattle.startup.specs.declared.Report.{Report}
 use Rattle.startup.specs.declared.Report.TheVariants.{Worked, Waiting, Running, Failed, Refused}
-use Rattle.startup.specs.declared.Phase.{Phase}
-use Rattle.startup.specs.declared.Phase.TheVariants.{Going, Over}
 use Rattle.startup.specs.declared.Startup.{Startup}
 use Rattle.startup.specs.declared.Stepped.{Stepped}
 use Rattle.startup.specs.Call.{handed_back, Event, back, wrote, met, waiting, missed, misread, compared, came_to, seeing, comes_to, step_by, step_of}
@@ -41,16 +40,16 @@ Known (Failed n step used) = (n ≡ 21) ⊎ (n ≡ 22)
 Known (Refused n) = (n ≡ 23) ⊎ (n ≡ 28)
 
 -- Of a startup that is over, its last answer.
-abbrev pub KnownIn : Phase → Type 0
-KnownIn Going = Unit {0}
-KnownIn (Over last) = Known last
+abbrev pub KnownIn : Option Report → Type 0
+KnownIn None = Unit {0}
+KnownIn (Some last) = Known last
 
 -- ---- a place's phase
 
 module _ (tag step used : ℕ) where
   by_number : (a b c d e : Bool) → (c ≡ true → tag ≡ 21) → (d ≡ true → tag ≡ 22) →
-      KnownIn (cond a Going (cond b (Over (Running step used)) (cond (c || d) (Over (Failed tag step used))
-      (cond e (Over (Refused 23)) (Over (Refused 28))))))
+      KnownIn (cond a None (cond b (Some (Running step used)) (cond (c || d) (Some (Failed tag step used))
+      (cond e (Some (Refused 23)) (Some (Refused 28))))))
   by_number true b c d e p q = tt
   by_number false true c d e p q = tt
   by_number false false true d e p q = inl (p refl)
@@ -77,10 +76,10 @@ holds l s e =
     let f = bound (read_image (take 8 (drop 10 l))) _ c.after in
     record { config = c.value; fields = f.value; profile = c.gave; same = same_given f.after }
 
-pub found_known : (l : List ℕ) (s : Startup) → startup_in l ≡ gives s → KnownIn s.phase
+pub found_known : (l : List ℕ) (s : Startup) → startup_in l ≡ gives s → KnownIn s.over
 unfolding standing_of
 found_known l s e =
-    subst (λ (s : Startup). KnownIn s.phase) (holds l s e).same (phase_known (get_or l 27 0) (get_or l 18 0) (number_at l 23))
+    subst (λ (s : Startup). KnownIn s.over) (holds l s e).same (phase_known (get_or l 27 0) (get_or l 18 0) (number_at l 23))
 
 -- ---- a call
 
@@ -98,16 +97,16 @@ came next s f misread = (inr refl, refl)
 came next s f (compared true) = (tt, refl)
 came next s f (compared false) = (inl refl, refl)
 
-by_phase : (s : Startup) (r : Reading) (bad : Bool) (check : Answer ClockRecord) (p : Phase) → KnownIn p →
+by_phase : (s : Startup) (r : Reading) (bad : Bool) (check : Answer ClockRecord) (p : Option Report) → KnownIn p →
     Fair s (cond bad (handed_back s) (step_by check s r p))
 by_phase s r true check p k = (inr refl, refl)
-by_phase s r false check (Over last) k = (k, refl)
-by_phase s r false (refuses n) Going k = (inr refl, refl)
-by_phase s r false (gives x) Going k = came (next_of s.config s.step) s (seeing s r) (comes_to x.clocks s r)
+by_phase s r false check (Some last) k = (k, refl)
+by_phase s r false (refuses n) None k = (inr refl, refl)
+by_phase s r false (gives x) None k = came (next_of s.config s.step) s (seeing s r) (comes_to x.clocks s r)
 
-pub call_fair : (s : Startup) (r : Reading) → KnownIn s.phase → (Known (step_of s r).report) × ((step_of s r).startup.config ≡ s.config)
+pub call_fair : (s : Startup) (r : Reading) → KnownIn s.over → (Known (step_of s r).report) × ((step_of s r).startup.config ≡ s.config)
 unfolding step_of
-call_fair s r = by_phase s r (not (named_of s.config) || not (in_width s.fields)) (check_of s.config) s.phase
+call_fair s r = by_phase s r (not (named_of s.config) || not (in_width s.fields)) (check_of s.config) s.over
 
 -- ---- a call in the place
 
@@ -116,15 +115,15 @@ module _ (t : Ticked) (r : Reading) (tick : ℕ) where
   unfolding stepped_in ticked_of
   place_by b e = ap (λ (b : Bool). cond b t (ticked_of t r tick).ticked) e
 
-  over_by : (p : Phase) → t.startup.phase ≡ p → is_over p ≡ true → (stepped_in t r tick).place ≡ t
-  over_by Going e h = false_true h
-  over_by (Over last) e h = over_stays t last e r tick
+  over_by : (p : Option Report) → t.startup.over ≡ p → is_over p ≡ true → (stepped_in t r tick).place ≡ t
+  over_by None e h = false_true h
+  over_by (Some last) e h = over_stays t last e r tick
 
   -- a startup that is over stays, and so does one that the call leaves as it was
-  pub place_stays : (is_over t.startup.phase || leaves_as_it_was (step_of t.startup r).report) ≡ true →
+  pub place_stays : (is_over t.startup.over || leaves_as_it_was (step_of t.startup r).report) ≡ true →
       (stepped_in t r tick).place ≡ t
   place_stays =
-      either (is_over t.startup.phase) (leaves_as_it_was (step_of t.startup r).report) (over_by t.startup.phase refl) (place_by true)
+      either (is_over t.startup.over) (leaves_as_it_was (step_of t.startup r).report) (over_by t.startup.over refl) (place_by true)
 
   -- of any other, the call notes its ticks
 
@@ -134,9 +133,9 @@ module _ (t : Ticked) (r : Reading) (tick : ℕ) where
     ticks = after_of t.ticks t.startup.unmet tick (step_of t.startup r).report;
   }
 
-  pub ticked_noted : is_over t.startup.phase ≡ false → (ticked_of t r tick).ticked ≡ noted
+  pub ticked_noted : is_over t.startup.over ≡ false → (ticked_of t r tick).ticked ≡ noted
   unfolding ticked_of
   ticked_noted h = rw h
 
-  pub place_moves : is_over t.startup.phase ≡ false → leaves_as_it_was (step_of t.startup r).report ≡ false → (stepped_in t r tick).place ≡ noted
+  pub place_moves : is_over t.startup.over ≡ false → leaves_as_it_was (step_of t.startup r).report ≡ false → (stepped_in t r tick).place ≡ noted
   place_moves h goes = place_by false goes ∙ ticked_noted h

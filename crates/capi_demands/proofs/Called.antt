@@ -44,12 +44,12 @@ moving (Refused n) k h o = true_false h
 abbrev LeavesAll : List ℕ → Answer (ℕ × List ℕ) → Type 0
 LeavesAll l m = Other (number_left m) → bytes_left l (◌>>=◌ m (λ x. gives (x.0, x.1 ++ drop 72 l))) ≡ l
 
-module _ (l : List ℕ) (s : Startup) (w tick : ℕ) (known : KnownIn s.phase) where
+module _ (l : List ℕ) (s : Startup) (w tick : ℕ) (known : KnownIn s.over) where
   abbrev x : Stepped
   x = step_of s (reading_of w)
 
   abbrev stays : Bool
-  stays = is_over s.phase || leaves_as_it_was x.report
+  stays = is_over s.over || leaves_as_it_was x.report
 
   answer_known : Known x.report
   answer_known = (call_fair s (reading_of w) known).0
@@ -61,7 +61,7 @@ module _ (l : List ℕ) (s : Startup) (w tick : ℕ) (known : KnownIn s.phase) w
       LeavesAll l (cond b (gives (number_of x.report, take 72 l)) (◌>>=◌ image (λ i. gives (number_of x.report, place i))))
   stays_by true e image place o = take-append-drop 72 l
   stays_by false e (gives i) place o =
-      absurd (moving x.report answer_known (neither (is_over s.phase) (leaves_as_it_was x.report) e).1 o)
+      absurd (moving x.report answer_known (neither (is_over s.over) (leaves_as_it_was x.report) e).1 o)
   stays_by false e (refuses n) place o = refl
 
   called_stays : LeavesAll l (call_bytes l s w tick)

@@ -1,5 +1,6 @@
 -- With which numbers a call ends a startup in its place; that a call on a place that is over changes no byte; and that a call gives its report's number.
 -- Assumes nothing.
+use Rattle.std.specs.Prelude.{Option, None, Some}
 use Prim.Native.Nat.{ℕ}
 use mathlib.Core.Path.{◌≡◌, refl, sym, ap, ◌∙◌, subst}
 use mathlib.Core.Logic.{◌⊎◌, inl, inr}
@@ -18,8 +19,6 @@ use Rattle.startup.specs.Steps.{next_of}
 use Rattle.startup.specs.declared.Reading.{Reading}
 use Rattle.startup.specs.declared.Report.{Report}
 use Rattle.startup.specs.declared.Report.TheVariants.{Worked, Waiting, Running, Failed, Refused}
-use Rattle.startup.specs.declared.Phase.{Phase}
-use Rattle.startup.specs.declared.Phase.TheVariants.{Going, Over}
 use Rattle.startup.specs.declared.Startup.{Startup}
 use Rattle.startup.specs.declared.Stepped.{Stepped}
 use Rattle.startup.specs.Call.{number_of, handed_back, Event, back, wrote, met, waiting, missed, misread, compared}
@@ -37,13 +36,13 @@ use Rattle.capi_demands.proofs.Shown.{Agrees, image_given}
 
 -- ---- a report's number is 0, or the startup is over by it
 
-abbrev pub Ends : Phase → Report → Type 0
-Ends p report = (number_of report ≡ 0) ⊎ ((step used : ℕ) × (p ≡ Over (Failed (number_of report) step used)))
+abbrev pub Ends : Option Report → Report → Type 0
+Ends p report = (number_of report ≡ 0) ⊎ ((step used : ℕ) × (p ≡ Some (Failed (number_of report) step used)))
 
 abbrev Ended : Stepped → Type 0
-Ended x = leaves_as_it_was x.report ≡ false → Ends x.startup.phase x.report
+Ended x = leaves_as_it_was x.report ≡ false → Ends x.startup.over x.report
 
-last_ends : (last : Report) → leaves_as_it_was last ≡ false → Ends (Over last) last
+last_ends : (last : Report) → leaves_as_it_was last ≡ false → Ends (Some last) last
 last_ends (Worked step used) h = inl refl
 last_ends (Waiting step used) h = inl refl
 last_ends (Running step used) h = inl refl
@@ -59,28 +58,28 @@ came next s f missed h = last_ends _ h
 came next s f misread h = last_ends _ h
 came next s f (compared same) h = last_ends _ h
 
-by_phase : (s : Startup) (r : Reading) (bad : Bool) (check : Answer ClockRecord) (p : Phase) → s.phase ≡ p →
+by_phase : (s : Startup) (r : Reading) (bad : Bool) (check : Answer ClockRecord) (p : Option Report) → s.over ≡ p →
     Ended (cond bad (handed_back s) (step_by check s r p))
 by_phase s r true check p e h = true_false h
-by_phase s r false check (Over last) e h = subst (λ (p : Phase). Ends p last) (sym e) (last_ends last h)
-by_phase s r false (refuses n) Going e h = true_false h
-by_phase s r false (gives x) Going e h = came (next_of s.config s.step) s (seeing s r) (comes_to x.clocks s r) h
+by_phase s r false check (Some last) e h = subst (λ (p : Option Report). Ends p last) (sym e) (last_ends last h)
+by_phase s r false (refuses n) None e h = true_false h
+by_phase s r false (gives x) None e h = came (next_of s.config s.step) s (seeing s r) (comes_to x.clocks s r) h
 
 ended : (s : Startup) (r : Reading) → Ended (step_of s r)
 unfolding step_of
-ended s r = by_phase s r (not (named_of s.config) || not (in_width s.fields)) (check_of s.config) s.phase refl
+ended s r = by_phase s r (not (named_of s.config) || not (in_width s.fields)) (check_of s.config) s.over refl
 
 pub ends_then : (t : Ticked) (r : Reading) (tick : ℕ) → leaves_as_it_was (step_of t.startup r).report ≡ false →
-    Ends (stepped_in t r tick).place.startup.phase (stepped_in t r tick).report
+    Ends (stepped_in t r tick).place.startup.over (stepped_in t r tick).report
 unfolding stepped_in ticked_of
 ends_then t r tick goes =
     let s = t.startup in
-    subst (λ (t : Ticked). Ends t.startup.phase (step_of s r).report) (sym (place_by t r tick false goes)) (ended s r goes)
+    subst (λ (t : Ticked). Ends t.startup.over (step_of s r).report) (sym (place_by t r tick false goes)) (ended s r goes)
 
 -- The number k of a report, of a place that can be stored.
-module _ (p : Phase) (step used : ℕ) (held : HeldPhase p step used) (report : Report) (k : ℕ) (same : k ≡ number_of report) where
-  over_by : (number s u : ℕ) → p ≡ Over (Failed number s u) → ((number ≡ 21) ⊎ (number ≡ 22)) × (s ≡ step) × (u ≡ used)
-  over_by number s u e = subst (λ (p : Phase). HeldPhase p step used) e held
+module _ (p : Option Report) (step used : ℕ) (held : HeldPhase p step used) (report : Report) (k : ℕ) (same : k ≡ number_of report) where
+  over_by : (number s u : ℕ) → p ≡ Some (Failed number s u) → ((number ≡ 21) ⊎ (number ≡ 22)) × (s ≡ step) × (u ≡ used)
+  over_by number s u e = subst (λ (p : Option Report). HeldPhase p step used) e held
 
   either_of : ((number_of report ≡ 21) ⊎ (number_of report ≡ 22)) → (k ≡ 0) ⊎ (k ≡ 21) ⊎ (k ≡ 22)
   either_of (inl h) = inr (inl (same ∙ h))
@@ -90,12 +89,12 @@ module _ (p : Phase) (step used : ℕ) (held : HeldPhase p step used) (report : 
   three_numbers (inl h) = inl (same ∙ h)
   three_numbers (inr (s, u, e)) = either_of (over_by (number_of report) s u e).0
 
-  pub over_by_it : Ends p report → (k ≡ 0 → ⊥) → p ≡ Over (Failed k step used)
+  pub over_by_it : Ends p report → (k ≡ 0 → ⊥) → p ≡ Some (Failed k step used)
   over_by_it (inl h) other = absurd (other (same ∙ h))
   over_by_it (inr (s, u, e)) other = let o = over_by (number_of report) s u e in e ∙ rw (same, o.1, o.2)
 
-  pub its_number : Agrees p report → (number s u : ℕ) → p ≡ Over (Failed number s u) → k ≡ number
-  its_number last number s u e = same ∙ ap number_of (subst (λ (p : Phase). Agrees p report) e last)
+  pub its_number : Agrees p report → (number s u : ℕ) → p ≡ Some (Failed number s u) → k ≡ number
+  its_number last number s u e = same ∙ ap number_of (subst (λ (p : Option Report). Agrees p report) e last)
 
 -- ---- a place that is over
 
@@ -117,17 +116,17 @@ module _ (l : List ℕ) (s : Startup) (w tick : ℕ) where
   abbrev x : Stepped
   x = step_of s (reading_of w)
 
-  given_by : (b : Bool) → (is_over s.phase || leaves_as_it_was x.report) ≡ b → (place : List ℕ → List ℕ) →
+  given_by : (b : Bool) → (is_over s.over || leaves_as_it_was x.report) ≡ b → (place : List ℕ → List ℕ) →
       (c : List ℕ) × (cond {A = Answer (ℕ × List ℕ)} b (gives (number_of x.report, take 72 l))
       (◌>>=◌ (image_bytes x.startup.fields) (λ i. gives (number_of x.report, place i))) ≡ gives (number_of x.report, c))
   given_by true e place = (take 72 l, refl)
   given_by false e place =
-      let fits = call_fits s (reading_of w) (neither (is_over s.phase) (leaves_as_it_was x.report) e).1 in
+      let fits = call_fits s (reading_of w) (neither (is_over s.over) (leaves_as_it_was x.report) e).1 in
       (place (packed 8 widths (list_of x.startup.fields)), rw (image_given x.startup.fields fits))
 
   pub call_gives : (c : List ℕ) × (call_bytes l s w tick ≡ gives (number_of x.report, c))
   unfolding call_bytes
-  call_gives = given_by (is_over s.phase || leaves_as_it_was x.report) refl _
+  call_gives = given_by (is_over s.over || leaves_as_it_was x.report) refl _
 
 pub call_answers : CallAnswers
 unfolding step_bytes stepped_in ticked_of

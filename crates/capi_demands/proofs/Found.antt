@@ -1,5 +1,6 @@
 -- Whatever bytes a call finds, the place that it leaves reads back as the call in a place leaves it.
 -- Assumes nothing.
+use Rattle.std.specs.Prelude.{Option, None, Some}
 use Prim.Native.Nat.{ℕ, zero, suc, ◌≤◌, ◌<◌}
 use mathlib.Core.Path.{◌≡◌, refl, sym, ap, ◌∙◌, subst}
 use mathlib.Core.Bool.{Bool, true, false, cond, ◌||◌}
@@ -17,8 +18,6 @@ use Rattle.image.specs.declared.Fields.{Fields}
 use Rattle.image.specs.Image.{read_image, image_bytes}
 use Rattle.startup.specs.declared.Reading.{Reading}
 use Rattle.startup.specs.declared.Report.{Report}
-use Rattle.startup.specs.declared.Phase.{Phase}
-use Rattle.startup.specs.declared.Phase.TheVariants.{Going, Over}
 use Rattle.startup.specs.declared.Startup.{Startup}
 use Rattle.startup.specs.Call.{number_of, step_of}
 use Rattle.ticks.specs.declared.Ticked.{Ticked}
@@ -109,34 +108,34 @@ module _ (l : List ℕ) (low : Bytes l) (long : 72 ≤ length l) (w tick : ℕ) 
   forty : length (ticks_part l) ≡ 40
   forty = length-take-le 40 (drop 32 l) (omega (arith, length-drop 32 l))
 
-  storable : s.phase ≡ Going → Storable t
+  storable : s.over ≡ None → Storable t
   unfolding standing_of ticks_in
   storable =
       let at : (i : ℕ) → Word (number_at (ticks_part l) i) = λ i. word_at (ticks_part l) i (bytes_take 40 (drop 32 l) (bytes_drop 32 l low)) in
-      subst (λ (s : Startup). s.phase ≡ Going → Storable (record { startup = s; ticks = ticks_in (ticks_part l) })) (holds l s found).same
+      subst (λ (s : Startup). s.over ≡ None → Storable (record { startup = s; ticks = ticks_in (ticks_part l) })) (holds l s found).same
       (λ e. record {
         step = byte_at l 18 low;
         unmet = word_at l 19 low;
         used = word_at l 23 low;
-        phase = subst (λ (p : Phase). HeldPhase p (get_or l 18 0) (number_at l 23)) (sym e) tt;
+        phase = subst (λ (p : Option Report). HeldPhase p (get_or l 18 0) (number_at l 23)) (sym e) tt;
         first = at 0;
         waits = (at 4, at 8, at 12, at 16, at 20, at 24, at 28, at 32);
       })
 
   -- It goes on.
 
-  going_by : (p : Phase) → is_over p ≡ false → p ≡ Going
-  going_by Going h = refl
-  going_by (Over last) h = true_false h
+  going_by : (p : Option Report) → is_over p ≡ false → p ≡ None
+  going_by None h = refl
+  going_by (Some last) h = true_false h
 
   abbrev moved : List ℕ → List ℕ
   moved i = take 10 l ++ (i ++ (counts_bytes (step_of s r).startup report ++ noted_bytes (ticks_part l) s.unmet tick report))
 
-  moves : (i rest : List ℕ) → image_bytes (step_of s r).startup.fields ≡ gives i → is_over s.phase ≡ false →
+  moves : (i rest : List ℕ) → image_bytes (step_of s r).startup.fields ≡ gives i → is_over s.over ≡ false →
       kept_of (moved i ++ rest) ≡ gives (noted t r tick)
   unfolding standing_of
   moves i rest e h =
-      let st = subst Storable (ticked_noted t r tick h) (ticked_storable t r tick word (storable (going_by s.phase h))) in
+      let st = subst Storable (ticked_noted t r tick h) (ticked_storable t r tick word (storable (going_by s.over h))) in
       let o = holds l s found in
       let c : read_profile (take 10 l) ≡ gives (step_of s r).startup.config =
       o.profile ∙ ap gives (ap (λ (s : Startup). s.config) o.same ∙ sym (call_fair s r (found_known l s found)).1) in
@@ -147,19 +146,19 @@ module _ (l : List ℕ) (low : Bytes l) (long : 72 ≤ length l) (w tick : ℕ) 
   abbrev Back : ℕ × List ℕ → Type 0
   Back x = (rest : List ℕ) → kept_of (x.1 ++ rest) ≡ gives (stepped_in t r tick).place
 
-  back_by : (b : Bool) → (is_over s.phase || leaves_as_it_was report) ≡ b → (x : ℕ × List ℕ) →
+  back_by : (b : Bool) → (is_over s.over || leaves_as_it_was report) ≡ b → (x : ℕ × List ℕ) →
       cond b (gives (number_of report, take 72 l))
       (◌>>=◌ (image_bytes (step_of s r).startup.fields) (λ i. gives (number_of report, moved i))) ≡ gives x → Back x
   back_by true h x e =
       subst Back (same_given e) (λ rest. kept_front l rest long ∙ rw found (ap gives (sym (place_stays t r tick h))))
   back_by false h x e =
       let i = bound (image_bytes (step_of s r).startup.fields) _ e in
-      let no = neither (is_over s.phase) (leaves_as_it_was report) h in
+      let no = neither (is_over s.over) (leaves_as_it_was report) h in
       subst Back (same_given i.after) (λ rest. moves i.value rest i.gave no.0 ∙ ap gives (sym (place_moves t r tick no.0 no.1)))
 
   called : (x : ℕ × List ℕ) → call_bytes l s w tick ≡ gives x → Back x
   unfolding call_bytes
-  called = back_by (is_over s.phase || leaves_as_it_was report) refl
+  called = back_by (is_over s.over || leaves_as_it_was report) refl
 
 pub call_reads_back : CallReadsBack
 unfolding step_bytes

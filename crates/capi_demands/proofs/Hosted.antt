@@ -58,8 +58,8 @@ module _ (c : Config) {x : ClockRecord} (q : check_of c ≡ gives x) (p : List �
     sound : Sound c q t.startup
     stored : Storable t
     goes : (cs : List Handed) → NoneLeaves (runs plain t.startup cs).1
-    last : Agrees t.startup.phase report
-    ends : Ends t.startup.phase report
+    last : Agrees t.startup.over report
+    ends : Ends t.startup.over report
     shows : Shows p t report rest l
 
   profile_of : (t : Ticked) → Sound c q t.startup → read_profile p ≡ gives t.startup.config

@@ -1,5 +1,6 @@
 -- A place that shows a startup with its ticks: what a host reads of it, and one call on it.
 -- Assumes nothing.
+use Rattle.std.specs.Prelude.{Option, None, Some}
 use Prim.Native.Nat.{ℕ, ◌+◌, ◌≤◌}
 use mathlib.Core.Path.{◌≡◌, refl, sym, ap, ◌∙◌, subst}
 use mathlib.Core.Bool.{Bool, true, false, cond, not, ◌||◌}
@@ -19,8 +20,6 @@ use Rattle.image.proofs.RoundTrip as image
 use Rattle.startup.specs.Steps.{next_of}
 use Rattle.startup.specs.declared.Reading.{Reading}
 use Rattle.startup.specs.declared.Report.{Report}
-use Rattle.startup.specs.declared.Phase.{Phase}
-use Rattle.startup.specs.declared.Phase.TheVariants.{Going, Over}
 use Rattle.startup.specs.declared.Startup.{Startup}
 use Rattle.startup.specs.declared.Stepped.{Stepped}
 use Rattle.startup.specs.Call.{number_of, handed_back, Event, back, wrote, met, waiting, missed, misread, compared}
@@ -39,16 +38,16 @@ use Rattle.capi_demands.proofs.Answers.{place_by, place_stays, place_moves}
 
 -- ---- the last report that a place shows is the one that its startup is over by
 
-abbrev pub Agrees : Phase → Report → Type 0
-Agrees Going report = Unit {0}
-Agrees (Over last) report = report ≡ last
+abbrev pub Agrees : Option Report → Report → Type 0
+Agrees None report = Unit {0}
+Agrees (Some last) report = report ≡ last
 
-agree_same : (p : Phase) (a b : Report) → is_over p ≡ true → Agrees p a → Agrees p b → a ≡ b
-agree_same Going a b h e g = false_true h
-agree_same (Over last) a b h e g = e ∙ sym g
+agree_same : (p : Option Report) (a b : Report) → is_over p ≡ true → Agrees p a → Agrees p b → a ≡ b
+agree_same None a b h e g = false_true h
+agree_same (Some last) a b h e g = e ∙ sym g
 
 abbrev Shown : Stepped → Type 0
-Shown x = leaves_as_it_was x.report ≡ false → Agrees x.startup.phase x.report
+Shown x = leaves_as_it_was x.report ≡ false → Agrees x.startup.over x.report
 
 came : (next : ℕ) (s : Startup) (f : Fields) (e : Event) → Shown (came_to next s f e)
 came next s f back h = true_false h
@@ -59,23 +58,23 @@ came next s f missed h = refl
 came next s f misread h = refl
 came next s f (compared same) h = refl
 
-by_phase : (s : Startup) (r : Reading) (bad : Bool) (check : Answer ClockRecord) (p : Phase) → s.phase ≡ p →
+by_phase : (s : Startup) (r : Reading) (bad : Bool) (check : Answer ClockRecord) (p : Option Report) → s.over ≡ p →
     Shown (cond bad (handed_back s) (step_by check s r p))
 by_phase s r true check p e h = true_false h
-by_phase s r false check (Over last) e h = subst (λ (p : Phase). Agrees p last) (sym e) refl
-by_phase s r false (refuses n) Going e h = true_false h
-by_phase s r false (gives x) Going e h = came (next_of s.config s.step) s (seeing s r) (comes_to x.clocks s r) h
+by_phase s r false check (Some last) e h = subst (λ (p : Option Report). Agrees p last) (sym e) refl
+by_phase s r false (refuses n) None e h = true_false h
+by_phase s r false (gives x) None e h = came (next_of s.config s.step) s (seeing s r) (comes_to x.clocks s r) h
 
 agrees : (s : Startup) (r : Reading) → Shown (step_of s r)
 unfolding step_of
-agrees s r = by_phase s r (not (named_of s.config) || not (in_width s.fields)) (check_of s.config) s.phase refl
+agrees s r = by_phase s r (not (named_of s.config) || not (in_width s.fields)) (check_of s.config) s.over refl
 
 pub agrees_then : (t : Ticked) (r : Reading) (tick : ℕ) → leaves_as_it_was (step_of t.startup r).report ≡ false →
-    Agrees (stepped_in t r tick).place.startup.phase (stepped_in t r tick).report
+    Agrees (stepped_in t r tick).place.startup.over (stepped_in t r tick).report
 unfolding stepped_in ticked_of
 agrees_then t r tick goes =
     let s = t.startup in
-    subst (λ (t : Ticked). Agrees t.startup.phase (step_of s r).report) (sym (place_by t r tick false goes)) (agrees s r goes)
+    subst (λ (t : Ticked). Agrees t.startup.over (step_of s r).report) (sym (place_by t r tick false goes)) (agrees s r goes)
 
 -- ---- one call on a place's bytes
 
@@ -92,11 +91,11 @@ module _ (l : List ℕ) (s : Startup) (w tick : ℕ) where
   abbrev x : Stepped
   x = step_of s (reading_of w)
 
-  call_stays : is_over s.phase ≡ true → call_bytes l s w tick ≡ gives (number_of x.report, take 72 l)
+  call_stays : is_over s.over ≡ true → call_bytes l s w tick ≡ gives (number_of x.report, take 72 l)
   unfolding call_bytes
   call_stays h = rw h
 
-  call_moves : (i : List ℕ) → is_over s.phase ≡ false → leaves_as_it_was x.report ≡ false → image_bytes x.startup.fields ≡ gives i →
+  call_moves : (i : List ℕ) → is_over s.over ≡ false → leaves_as_it_was x.report ≡ false → image_bytes x.startup.fields ≡ gives i →
       call_bytes l s w tick ≡
       gives (number_of x.report, take 10 l ++ (i ++ (counts_bytes x.startup x.report ++ noted_bytes (ticks_part l) s.unmet tick x.report)))
   unfolding call_bytes
@@ -148,7 +147,7 @@ module _ (p : List ℕ) (t : Ticked) (report : Report) (rest l : List ℕ) (ten 
   kept st reads = kept_again p t report rest l reads st shows
 
   -- One call on it, which leaves no place as it was and fields that are in width.
-  module _ (st : Storable t) (reads : read_profile p ≡ gives s.config) (last : Agrees s.phase report)
+  module _ (st : Storable t) (reads : read_profile p ≡ gives s.config) (last : Agrees s.over report)
       (w tick : ℕ) (l' : List ℕ) (n : ℕ) (g : Leaves 72 (step_bytes l w tick) l l' n)
       (goes : leaves_as_it_was (step_of s (reading_of w)).report ≡ false) (fits : in_width (step_of s (reading_of w)).startup.fields ≡ true) where
     abbrev r : Reading
@@ -170,17 +169,17 @@ module _ (p : List ℕ) (t : Ticked) (report : Report) (rest l : List ℕ) (ten 
     abbrev Does : Type 0
     Does = (n ≡ number_of says) × Shows p next says rest l'
 
-    over : is_over s.phase ≡ true → Does
+    over : is_over s.over ≡ true → Does
     unfolding stepped_in ticked_of
     over h =
         let v = left_all (number_of says) (take 72 l) l l' n (step_bytes l w tick) long (answered ∙ call_stays l s w tick h) g in
         let same : next ≡ t = place_stays t r tick (rw h) in
-        let agrees = subst (λ (t : Ticked). Agrees t.startup.phase says) same (agrees_then t r tick goes) in
-        let again : says ≡ report = agree_same s.phase says report h agrees last in
+        let agrees = subst (λ (t : Ticked). Agrees t.startup.over says) same (agrees_then t r tick goes) in
+        let again : says ≡ report = agree_same s.over says report h agrees last in
         let whole : l' ≡ l = v.1 ∙ take-append-drop 72 l in
         (v.0, rw (same, again, whole) shows)
 
-    moves : is_over s.phase ≡ false → Does
+    moves : is_over s.over ≡ false → Does
     unfolding stepped_in ticked_of
     moves h =
         let x = step_of s r in
@@ -197,4 +196,4 @@ module _ (p : List ℕ) (t : Ticked) (report : Report) (rest l : List ℕ) (ten 
         )
 
     pub one_call : Does
-    one_call = cases (is_over s.phase) over moves
+    one_call = cases (is_over s.over) over moves

@@ -1,5 +1,6 @@
 -- What starting gives can be stored, and a call keeps that.
 -- Assumes nothing.
+use Rattle.std.specs.Prelude.{Option, None, Some}
 use Prim.Native.Nat.{ℕ, suc, ◌+◌, ◌≤◌, ◌<◌}
 use mathlib.Core.Path.{◌≡◌, refl, subst}
 use mathlib.Core.Logic.{inl, inr}
@@ -15,11 +16,10 @@ use Rattle.v4x7.specs.declared.ClockRecord.{ClockRecord}
 use Rattle.v4x7.specs.Check.{named_of, check_of}
 use Rattle.image.specs.declared.Fields.{Fields}
 use Rattle.image.specs.Image.{in_width}
+use Rattle.startup.specs.declared.Report.{Report}
 use Rattle.startup.specs.Steps.{parts, step_after, listed_of, next_of, work_of}
 use Rattle.startup.specs.declared.steps.Work.{Work}
 use Rattle.startup.specs.declared.Reading.{Reading}
-use Rattle.startup.specs.declared.Phase.{Phase}
-use Rattle.startup.specs.declared.Phase.TheVariants.{Going, Over}
 use Rattle.startup.specs.declared.Startup.{Startup}
 use Rattle.startup.specs.Call.{seen_of, going, handed_back, Event, compared, came_to, seeing, step_by, start_of, step_of}
 use Rattle.startup.specs.View.{View, off, none, spent, writes, meets, waits, misses, shows, differs, ends}
@@ -60,7 +60,7 @@ module _ (k : Ticks) (ticks : Small k) where
         record { step = st.step; unmet = st.unmet; used = st.used; phase = refl; first = ticks.0; waits = ticks.1 }
 
     -- by what it comes to
-    came : (next : ℕ) (f : Fields) {listed : Bool} {w : Work} {e : Event} → next < 256 → View 1000000 s listed w e →
+    came : (next : ℕ) (f : Fields) {listed : Bool} {w : Option Work} {e : Event} → next < 256 → View 1000000 s listed w e →
         Stored (came_to next s f e).startup
     came next f n (off t) = st
     came next f n none = st
@@ -75,18 +75,18 @@ module _ (k : Ticks) (ticks : Small k) where
         record { step = st.step; unmet = st.unmet; used = omega arith; phase = (inr refl, refl, refl); first = ticks.0; waits = ticks.1 }
     came next f n (ends {same} h) = compared_so next f same
 
-    by_phase : (b : Bool) (a : Answer ClockRecord) (r : Reading) (h : Phase) → Stored (cond b (handed_back s) (step_by a s r h)).startup
+    by_phase : (b : Bool) (a : Answer ClockRecord) (r : Reading) (h : Option Report) → Stored (cond b (handed_back s) (step_by a s r h)).startup
     by_phase true a r h = st
-    by_phase false a r (Over last) = st
-    by_phase false (refuses n) r Going = st
-    by_phase false (gives x) r Going =
+    by_phase false a r (Some last) = st
+    by_phase false (refuses n) r None = st
+    by_phase false (gives x) r None =
         let work = work_of s.config x.clocks s.step s.fields (seen_of r) in
         came (next_of s.config s.step) (seeing s r) (next_byte s.config s.step st.step)
         (view 1000000 s r (listed_of s.config s.step) work)
 
     stored_step : (r : Reading) → Stored (step_of s r).startup
     unfolding step_of
-    stored_step r = by_phase (not (named_of s.config) || not (in_width s.fields)) (check_of s.config) r s.phase
+    stored_step r = by_phase (not (named_of s.config) || not (in_width s.fields)) (check_of s.config) r s.over
 
 pub starts_storable : StartsStorable
 unfolding start_of
@@ -106,8 +106,8 @@ ticked_storable t r tick h st =
     let noted = after_of t.ticks s.unmet tick (step_of s r).report in
     let small : Small t.ticks = (st.first, st.waits) in
     let ticks =
-    by_cond Small (is_over s.phase) t.ticks noted (λ e. small) (λ e. after_small t.ticks s.unmet tick (step_of s r).report small h) in
-    stored_step (cond (is_over s.phase) t.ticks noted) ticks s
+    by_cond Small (is_over s.over) t.ticks noted (λ e. small) (λ e. after_small t.ticks s.unmet tick (step_of s r).report small h) in
+    stored_step (cond (is_over s.over) t.ticks noted) ticks s
     (record { step = st.step; unmet = st.unmet; used = st.used; phase = st.phase; first = ticks.0; waits = ticks.1 }) r
 
 pub stays_storable : StaysStorable

@@ -1,5 +1,6 @@
 -- The number that a call of a startup answers is the first of its list of tests.
 -- Assumes nothing.
+use Rattle.std.specs.Prelude.{Option, None, Some}
 use Prim.Native.Nat.{ℕ}
 use mathlib.Core.Path.{◌≡◌, refl, sym, ap, ◌∙◌, subst}
 use mathlib.Core.Logic.{inl, inr}
@@ -15,8 +16,6 @@ use Rattle.image.specs.Image.{in_width}
 use Rattle.startup.specs.declared.Reading.{Reading}
 use Rattle.startup.specs.declared.Report.{Report}
 use Rattle.startup.specs.declared.Report.TheVariants.{Worked, Waiting, Running, Failed, Refused}
-use Rattle.startup.specs.declared.Phase.{Phase}
-use Rattle.startup.specs.declared.Phase.TheVariants.{Going, Over}
 use Rattle.startup.specs.declared.Startup.{Startup}
 use Rattle.startup.specs.declared.Stepped.{Stepped}
 use Rattle.startup.specs.Call.{number_of, handed_back, step_by, step_of}
@@ -54,7 +53,7 @@ module _ (s : Startup) (r : Reading) where
   abbrev number : ℕ
   number = number_of (step_of s r).report
 
-  going : s.phase ≡ Going → (check : Answer ClockRecord) → check_of s.config ≡ check → number ≡ number_in (first_of (called_tests s r))
+  going : s.over ≡ None → (check : Answer ClockRecord) → check_of s.config ≡ check → number ≡ number_in (first_of (called_tests s r))
   going e (gives x) q =
       told_number number (eqb number 0) (eqb-true number 0) ∙ ap number_in (step_in_order s r e q) ∙ rw (e, q)
   going e (refuses n) q = ap (λ (x : Stepped). number_of x.report) (unaccepted_28 s r e q) ∙ rw (e, q)
@@ -67,16 +66,16 @@ module _ (s : Startup) (r : Reading) where
   codes_first last k true false = refl
   codes_first last k true true = of_five FirstIs refl refl refl refl refl last k
 
-  over : (last : Report) → s.phase ≡ Over last → Known last → number ≡ number_in (first_of (called_tests s r))
+  over : (last : Report) → s.over ≡ Some last → Known last → number ≡ number_in (first_of (called_tests s r))
   unfolding step_of
   over last e k =
       let bad = not (named_of s.config) || not (in_width s.fields) in
-      ap (λ (p : Phase). number_of (cond bad (handed_back s) (step_by (check_of s.config) s r p)).report) e
+      ap (λ (p : Option Report). number_of (cond bad (handed_back s) (step_by (check_of s.config) s r p)).report) e
       ∙ codes_first last k (named_of s.config) (in_width s.fields) ∙ rw e
 
-  by_phase : (p : Phase) → s.phase ≡ p → KnownIn p → number ≡ number_in (first_of (called_tests s r))
-  by_phase Going e k = going e (check_of s.config) refl
-  by_phase (Over last) e k = over last e k
+  by_phase : (p : Option Report) → s.over ≡ p → KnownIn p → number ≡ number_in (first_of (called_tests s r))
+  by_phase None e k = going e (check_of s.config) refl
+  by_phase (Some last) e k = over last e k
 
-  pub first_test : KnownIn s.phase → number ≡ number_in (first_of (called_tests s r))
-  first_test = by_phase s.phase refl
+  pub first_test : KnownIn s.over → number ≡ number_in (first_of (called_tests s r))
+  first_test = by_phase s.over refl

@@ -1,6 +1,6 @@
 -- A host that keeps its startup in lent bytes sees what the startup in a place gives, so that demand 3 holds of the calls for C.
 -- Assumes nothing.
-use Rattle.std.specs.Prelude.{ℕ, suc, ◌≤◌, ◌≡◌, ◌⊎◌, List, length, drop, get_or}
+use Rattle.std.specs.Prelude.{Some, ℕ, suc, ◌≤◌, ◌≡◌, ◌⊎◌, List, length, drop, get_or}
 use Rattle.answer.specs.Answer.{gives}
 use Rattle.layout.specs.Layout.{Bytes}
 use Rattle.tree.specs.declared.Clocks.{Clocks}
@@ -12,7 +12,6 @@ use Rattle.image.specs.declared.Fields.{Fields}
 use Rattle.image.specs.Image.{read_image}
 use Rattle.startup.specs.declared.Report.{Report}
 use Rattle.startup.specs.declared.Report.TheVariants.{Worked, Failed}
-use Rattle.startup.specs.declared.Phase.TheVariants.{Over}
 use Rattle.startup.specs.Call.{number_of, named_step}
 use Rattle.ticks.specs.declared.Ticked.{Ticked}
 use Rattle.ticks.specs.Ticks.{longest_of, begun_with}
@@ -35,7 +34,7 @@ pub record Hosts (p i l : List ℕ) (ws ts : ℕ → ℕ) (r : ℕ) (rs : ℕ �
 
 -- What a host reads of its place: byte 27 is the phase, 28 how the last call went, 29 the refusal number, 30 the step that it names, 68 to 71 the longest wait.
 pub record Tells (t : Ticked) (report : Report) (l : List ℕ) : Type 0 where
-  pub phase : get_or l 27 0 ≡ tag_of t.startup.phase
+  pub phase : get_or l 27 0 ≡ tag_of t.startup.over
   pub report_tag_lem : get_or l 28 0 ≡ report_tag report
   pub number : get_or l 29 0 ≡ number_of report
   pub step : get_or l 30 0 ≡ named_step report
@@ -60,8 +59,8 @@ pub record Served (p : List ℕ) (c : Config) (promised : Clocks) (f : Fields) (
   pub called : (n : ℕ) → rs n ≡ number_of (told c f h n)
   pub numbers : (n : ℕ) → (rs n ≡ 0) ⊎ (rs n ≡ 21) ⊎ (rs n ≡ 22)
   -- With 21 or 22 the startup then is over by that number, at its step and with its readings; and over so, it was returned.
-  pub failed : (n : ℕ) → (rs n ≡ 0 → ⊥) → let s = (after c f h (suc n)).startup in s.phase ≡ Over (Failed (rs n) s.step s.used)
-  pub returned : (n number step used : ℕ) → (after c f h (suc n)).startup.phase ≡ Over (Failed number step used) → rs n ≡ number
+  pub failed : (n : ℕ) → (rs n ≡ 0 → ⊥) → let s = (after c f h (suc n)).startup in s.over ≡ Some (Failed (rs n) s.step s.used)
+  pub returned : (n number step used : ℕ) → (after c f h (suc n)).startup.over ≡ Some (Failed number step used) → rs n ≡ number
   -- After the start the lent bytes are the begun startup's place, after each call the place of what the startup in a place comes to with the same
   -- readings and ticks, with its report. The bytes behind the place are as they were.
   pub begins : Shows p (begun_with (begun c f)) (Worked 0 0) rest (m 0)

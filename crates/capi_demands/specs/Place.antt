@@ -1,6 +1,6 @@
 -- What a place can hold, that it is read back as it was stored, and that calls keep to it.
 -- Assumes nothing.
-use Rattle.std.specs.Prelude.{ℕ, ◌≤◌, ◌<◌, ◌≡◌, ◌⊎◌, List, ◌++◌, length}
+use Rattle.std.specs.Prelude.{Option, None, Some, ℕ, ◌≤◌, ◌<◌, ◌≡◌, ◌⊎◌, List, ◌++◌, length}
 use Rattle.answer.specs.Answer.{gives}
 use Rattle.layout.specs.Layout.{Bytes}
 use Rattle.profile.specs.Profile.{read_profile}
@@ -10,8 +10,6 @@ use Rattle.image.specs.declared.Fields.{Fields}
 use Rattle.startup.specs.declared.Reading.{Reading}
 use Rattle.startup.specs.declared.Report.{Report}
 use Rattle.startup.specs.declared.Report.TheVariants.{Worked, Waiting, Running, Failed, Refused}
-use Rattle.startup.specs.declared.Phase.{Phase}
-use Rattle.startup.specs.declared.Phase.TheVariants.{Going, Over}
 use Rattle.startup.specs.declared.Startup.{Startup}
 use Rattle.startup.specs.Call.{number_of, start_of}
 use Rattle.ticks.specs.declared.Waits.{Waits}
@@ -29,9 +27,9 @@ Repeats (Running s u) step used = (s ≡ step) × (u ≡ used)
 Repeats (Failed n s u) step used = ((n ≡ 21) ⊎ (n ≡ 22)) × (s ≡ step) × (u ≡ used)
 Repeats (Refused n) step used = n ≡ 23
 
-abbrev pub HeldPhase : Phase → ℕ → ℕ → Type 0
-HeldPhase Going step used = Unit {0}
-HeldPhase (Over last) step used = Repeats last step used
+abbrev pub HeldPhase : Option Report → ℕ → ℕ → Type 0
+HeldPhase None step used = Unit {0}
+HeldPhase (Some last) step used = Repeats last step used
 
 -- The ticks, four bytes each.
 abbrev pub Word : ℕ → Type 0
@@ -45,7 +43,7 @@ pub record Storable (t : Ticked) : Type 0 where
   pub step : t.startup.step < 256
   pub unmet : Word t.startup.unmet
   pub used : Word t.startup.used
-  pub phase : HeldPhase t.startup.phase t.startup.step t.startup.used
+  pub phase : HeldPhase t.startup.over t.startup.step t.startup.used
   pub first : Word t.ticks.first
   pub waits : SmallWaits t.ticks.waits
 
@@ -83,5 +81,5 @@ CallAnswers =
 -- Where the startup of a place is over, a call changes no byte, whatever the number that it returns.
 abbrev pub OverStays : Type 0
 OverStays =
-    (l l' : List ℕ) (w tick r : ℕ) (s : Startup) (last : Report) → startup_in l ≡ gives s → s.phase ≡ Over last →
+    (l l' : List ℕ) (w tick r : ℕ) (s : Startup) (last : Report) → startup_in l ≡ gives s → s.over ≡ Some last →
     Leaves 72 (step_bytes l w tick) l l' r → l' ≡ l

@@ -1,34 +1,45 @@
 -- What a call that C and Rust make gives: the number that it returns, and all that was lent. And HSE as it takes it.
 -- Assumes nothing.
-use Rattle.std.specs.Prelude.{ℕ, ◌≡◌, cond, List, [], ◌∷◌, ◌++◌, eqb}
+use Rattle.std.specs.Prelude.{ℕ, ◌≡◌, cond, Option, None, Some, Result, Ok, Err, List, [], ◌∷◌, ◌++◌, length, drop, eqb, ltb}
 use Rattle.std.proofs.Common.{sym, ◌∙◌}
-use Rattle.answer.specs.Answer.{Answer, gives, refuses, ◌>>=◌}
-use Rattle.layout.specs.Lent.{written, after}
+use Rattle.answer.specs.Answer.{Answer, gives, refuses, refuse, ◌>>=◌, ◌>>◌}
 use Rattle.tree.specs.declared.Clocks.{Clocks}
-use Rattle.tree.specs.declared.HseFrequency.{HseFrequency}
-use Rattle.tree.specs.declared.HseFrequency.TheVariants as hse
-use Rattle.capi_give.specs.declared.Sevenfold.{Sevenfold}
-use Rattle.capi_give.specs.declared.Sevenfold.TheVariants as seven
-use Rattle.capi_give.specs.declared.Twofold.{Twofold}
-use Rattle.capi_give.specs.declared.Twofold.TheVariants as two
 
 -- HSE handed to a decoder as a number: 0 where there is none
-abbrev pub decoder_hse : ℕ → HseFrequency
-decoder_hse hz = cond (eqb hz 0) hse.Absent (hse.Hz hz)
+abbrev pub decoder_hse : ℕ → Option ℕ
+decoder_hse hz = cond (eqb hz 0) None (Some hz)
 
 -- the number returned: 0, or the refusal
 abbrev pub number_in : {A : Type 0} → Answer A → ℕ
 number_in (gives a) = 0
 number_in (refuses n) = n
 
+-- an answer, by the number of what refuses it
+abbrev pub says_by : {A E : Type 0} → (E → ℕ) → Result A E → Answer A
+says_by number (Ok x) = gives x
+says_by number (Err e) = refuses (number e)
+
+-- What the lent items l, bytes or words, are to hold after n of them are given, or why none is: 32 first, then what refuses the record itself. What
+-- is beyond the record stays. At bytes it is what a writer writes (layout's `written`).
+abbrev pub through : {A : Type 0} → ℕ → Answer (List A) → List A → Answer (List A)
+through n m l = do
+  refuse 32 (ltb (length l) n)
+  xs ← m
+  gives (xs ++ drop n l)
+
+-- the lent items after it: a refusal leaves them
+abbrev pub after : {A : Type 0} → List A → Answer (List A) → List A
+after l (gives xs) = xs
+after l (refuses n) = l
+
 -- A record m of n bytes or words, given through the lent ones l: 32 first where they are fewer, then what refuses the record. What is beyond the
 -- record stays, and after a refusal all of it.
-pub record Given (n : ℕ) (m : Answer (List ℕ)) (l l' : List ℕ) (r : ℕ) : Type 0 where
-  pub number : r ≡ number_in (written n m l)
-  pub lent : l' ≡ after l (written n m l)
+pub record Given {A : Type 0} (n : ℕ) (m : Answer (List A)) (l l' : List A) (r : ℕ) : Type 0 where
+  pub number : r ≡ number_in (through n m l)
+  pub lent : l' ≡ after l (through n m l)
 
 -- Nothing is left open: two results that the promise allows are equal.
-pub given_settled : {n : ℕ} {m : Answer (List ℕ)} {l a b : List ℕ} {r s : ℕ} → Given n m l a r → Given n m l b s → (r ≡ s) × (a ≡ b)
+pub given_settled : {A : Type 0} {n : ℕ} {m : Answer (List A)} {l a b : List A} {r s : ℕ} → Given n m l a r → Given n m l b s → (r ≡ s) × (a ≡ b)
 given_settled w v = (w.number ∙ sym v.number, w.lent ∙ sym v.lent)
 
 -- one lent word after a number is given through it: a refusal leaves it
@@ -45,17 +56,16 @@ pub given_one_settled : {m : Answer ℕ} {x a b r s : ℕ} → GivenOne m x a r 
 given_one_settled w v = (w.number ∙ sym v.number, w.lent ∙ sym v.lent)
 
 -- two numbers
+abbrev pub pair_of : ℕ × ℕ → List ℕ
+pair_of a = a.0 ∷ a.1 ∷ []
+
 abbrev pub two_words : Answer (ℕ × ℕ) → Answer (List ℕ)
 two_words m = do
   a ← m
-  gives (a.0 ∷ a.1 ∷ [])
-
-abbrev pub twofold_says : Twofold → Answer (ℕ × ℕ)
-twofold_says (two.Are first second) = gives (first, second)
-twofold_says (two.Refused n) = refuses n
+  gives (pair_of a)
 
 -- the six clocks, in the program's order
-abbrev six_of : Clocks → List ℕ
+abbrev pub six_of : Clocks → List ℕ
 six_of k = k.sysclk ∷ k.hclk ∷ k.pclk1 ∷ k.pclk2 ∷ k.pclk1_tim ∷ k.pclk2_tim ∷ []
 
 abbrev pub six_words : Answer Clocks → Answer (List ℕ)
@@ -64,14 +74,10 @@ six_words m = do
   gives (six_of k)
 
 -- and one more number behind them
-abbrev seven_of : Clocks × ℕ → List ℕ
+abbrev pub seven_of : Clocks × ℕ → List ℕ
 seven_of a = six_of a.0 ++ (a.1 ∷ [])
 
 abbrev pub seven_words : Answer (Clocks × ℕ) → Answer (List ℕ)
 seven_words m = do
   a ← m
   gives (seven_of a)
-
-abbrev pub sevenfold_says : Sevenfold → Answer (Clocks × ℕ)
-sevenfold_says (seven.Are k more) = gives (k, more)
-sevenfold_says (seven.Refused n) = refuses n

@@ -2,14 +2,13 @@
 // And HSE as a host hands it to a decoder.
 #![tactic(auto)]
 
-ghost use Rattle.std.specs.Prelude.{◌≡◌, ◌++◌, ◌≤◌, length, drop};
+ghost use Rattle.std.specs.Prelude.{◌≡◌, ℕ, length};
 ghost use Rattle.answer.specs.Answer.{gives};
-ghost use Rattle.answer.specs.Said.{reply_says};
-ghost use Rattle.tree.specs.Tree.{buses_says};
-ghost use Rattle.capi_give.specs.Given.{decoder_hse, Given, GivenOne, two_words, twofold_says, six_words, seven_words, sevenfold_says};
+ghost use Rattle.answer.specs.Said.{number_of as refusal_number_of};
+ghost use Rattle.capi_give.specs.Given.{decoder_hse, Given, GivenOne, says_by, pair_of, two_words, six_of, six_words, seven_of, seven_words};
 
-use answer::Reply;
-use tree::{Buses, Clocks, HseFrequency};
+use answer::Refusal;
+use tree::Clocks;
 
 // The six clocks, in words.
 pub const CLOCKS_WORDS: usize = 6;
@@ -18,140 +17,122 @@ pub const CHECK_WORDS: usize = 7;
 // Two numbers, in words.
 pub const PAIR_WORDS: usize = 2;
 
-// The six clocks and one more number, or a refusal number.
-#[derive(Clone, Copy)]
-pub enum Sevenfold {
-    Are { clocks: Clocks, more: u32 },
-    Refused(u8),
+// What refuses an answer, by its number: a refusal, or whatever number a caller has for one.
+pub trait Numbered: Copy {
+    ghost number_of: { Self → ℕ };
+
+    fn number(self) -> u8
+        ensures { result ≡ number_of self };
 }
 
-// Two numbers, or a refusal number.
-#[derive(Clone, Copy)]
-pub enum Twofold {
-    Are { first: u32, second: u32 },
-    Refused(u8),
+impl Numbered for Refusal {
+    ghost number_of = { refusal_number_of };
+
+    fn number(self) -> u8 {
+        Refusal::number(self)
+    }
+}
+
+impl Numbered for u8 {
+    ghost number_of = { λ n. n };
+
+    fn number(self) -> u8 {
+        self
+    }
 }
 
 // HSE as it is handed to a decoder: a frequency of 0 says that there is none.
-pub fn decoder_hse(hz: u32) -> HseFrequency
+pub fn decoder_hse(hz: u32) -> Option<u32>
     ensures { result ≡ decoder_hse hz }
 {
-    if hz == 0 {
-        HseFrequency::Absent
-    } else {
-        HseFrequency::Hz(hz)
-    }
+    if hz == 0 { None } else { Some(hz) }
 }
 
-// Copies words into the first of the lent ones.
-fn copy(words: &[u32], out: &mut [u32])
-    requires { length words.now ≤ length out.old }
-    ensures { out.new ≡ words.now ++ drop (length words.now) out.old }
+// Gives bytes or words through lent ones. Refused by 32: they are fewer.
+pub fn give<T: Copy>(items: &[T], out: &mut [T]) -> u8
+    ensures { Given (length items.now) (gives items.now) out.old out.new result }
 {
-    let mut i = 0;
-    while i < words.len() {
-        out[i] = words[i];
-        i += 1;
+    if out.len() < items.len() {
+        return Refusal::OutputTooShort.number();
     }
-}
-
-// Copies bytes into the first of the lent ones.
-fn copy_bytes(bytes: &[u8], out: &mut [u8])
-    requires { length bytes.now ≤ length out.old }
-    ensures { out.new ≡ bytes.now ++ drop (length bytes.now) out.old }
-{
-    let mut k = 0;
-    while k < bytes.len() {
-        out[k] = bytes[k];
-        k += 1;
-    }
-}
-
-// Gives words through lent ones. Refused by 32: they are fewer.
-fn give(words: &[u32], out: &mut [u32]) -> u8
-    ensures { Given (length words.now) (gives words.now) out.old out.new result }
-{
-    if out.len() < words.len() {
-        return answer::OUTPUT_TOO_SHORT;
-    }
-    copy(words, out);
+    out[..items.len()].copy_from_slice(items);
     0
 }
 
-// Gives bytes through lent ones. Refused by 32: they are fewer.
-pub fn give_bytes(bytes: &[u8], out: &mut [u8]) -> u8
-    ensures { Given (length bytes.now) (gives bytes.now) out.old out.new result }
+// Gives a record of bytes or words, or hands its refusal on. 32 comes first.
+pub fn give_record<T: Copy, E: Numbered, const N: usize>(
+    items: Result<[T; N], E>,
+    out: &mut [T],
+) -> u8
+    ensures { Given N (says_by E.number_of items) out.old out.new result }
 {
-    if out.len() < bytes.len() {
-        return answer::OUTPUT_TOO_SHORT;
+    if out.len() < N {
+        return Refusal::OutputTooShort.number();
     }
-    copy_bytes(bytes, out);
-    0
+    match items {
+        Err(e) => e.number(),
+        Ok(xs) => give(&xs, out),
+    }
+}
+
+// The six clocks as words, in the program's order.
+fn six(k: Clocks) -> [u32; CLOCKS_WORDS]
+    ensures { result ≡ six_of k }
+{
+    [k.sysclk, k.hclk, k.pclk1, k.pclk2, k.pclk1_tim, k.pclk2_tim]
+}
+
+// And one more number behind them.
+fn seven(both: (Clocks, u32)) -> [u32; CHECK_WORDS]
+    ensures { result ≡ seven_of both }
+{
+    let (k, more) = both;
+    [
+        k.sysclk,
+        k.hclk,
+        k.pclk1,
+        k.pclk2,
+        k.pclk1_tim,
+        k.pclk2_tim,
+        more,
+    ]
+}
+
+// Two numbers as words.
+fn pair(both: (u32, u32)) -> [u32; PAIR_WORDS]
+    ensures { result ≡ pair_of both }
+{
+    [both.0, both.1]
 }
 
 // Gives the six clocks, or hands their refusal on. 32 comes first.
-pub fn give_six(buses: Buses, out: &mut [u32]) -> u8
-    ensures { Given 6 (six_words (buses_says buses)) out.old out.new result }
+pub fn give_six<E: Numbered>(buses: Result<Clocks, E>, out: &mut [u32]) -> u8
+    ensures { Given 6 (six_words (says_by E.number_of buses)) out.old out.new result }
 {
-    if out.len() < CLOCKS_WORDS {
-        return answer::OUTPUT_TOO_SHORT;
-    }
-    match buses {
-        Buses::Refused(n) => n,
-        Buses::Run(k) => {
-            let xs = [k.sysclk, k.hclk, k.pclk1, k.pclk2, k.pclk1_tim, k.pclk2_tim];
-            give(&xs, out)
-        }
-    }
+    give_record(buses.map(six), out)
 }
 
 // Gives the six clocks and one more number, or hands their refusal on. 32 comes first.
-pub fn give_seven(answer: Sevenfold, out: &mut [u32]) -> u8
-    ensures { Given 7 (seven_words (sevenfold_says answer)) out.old out.new result }
+pub fn give_seven<E: Numbered>(answer: Result<(Clocks, u32), E>, out: &mut [u32]) -> u8
+    ensures { Given 7 (seven_words (says_by E.number_of answer)) out.old out.new result }
 {
-    if out.len() < CHECK_WORDS {
-        return answer::OUTPUT_TOO_SHORT;
-    }
-    match answer {
-        Sevenfold::Refused(n) => n,
-        Sevenfold::Are { clocks: k, more } => {
-            let xs = [
-                k.sysclk,
-                k.hclk,
-                k.pclk1,
-                k.pclk2,
-                k.pclk1_tim,
-                k.pclk2_tim,
-                more,
-            ];
-            give(&xs, out)
-        }
-    }
+    give_record(answer.map(seven), out)
 }
 
 // Gives two numbers, or hands their refusal on. 32 comes first.
-pub fn give_two(answer: Twofold, out: &mut [u32]) -> u8
-    ensures { Given 2 (two_words (twofold_says answer)) out.old out.new result }
+pub fn give_two<E: Numbered>(answer: Result<(u32, u32), E>, out: &mut [u32]) -> u8
+    ensures { Given 2 (two_words (says_by E.number_of answer)) out.old out.new result }
 {
-    if out.len() < PAIR_WORDS {
-        return answer::OUTPUT_TOO_SHORT;
-    }
-    match answer {
-        Twofold::Refused(n) => n,
-        Twofold::Are { first, second } => {
-            let xs = [first, second];
-            give(&xs, out)
-        }
-    }
+    give_record(answer.map(pair), out)
 }
 
 // Gives one number, or hands its refusal on.
-pub fn give_one(reply: Reply, out: &mut u32) -> u8
-    ensures { GivenOne (reply_says reply) out.old out.new result }
+pub fn give_one<E: Numbered>(reply: Result<u32, E>, out: &mut u32) -> u8
+    ensures { GivenOne (says_by E.number_of reply) out.old out.new result }
 {
     match reply {
-        Reply::Refused(n) => n,
-        Reply::Is(x) => {
+        Err(refusal) => refusal.number(),
+        Ok(x) => {
             *out = x;
             0
         }

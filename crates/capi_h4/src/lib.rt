@@ -1,34 +1,31 @@
 // CH32H4 for C: the clocks, each prescaler and the PLL's multipliers.
-#![tactic(auto)]
+#![tactic(auto, unfolding(crate::specs::Calls::bus_words_of, crate::specs::Calls::clocks_ahb_of))]
 
 ghost use Rattle.std.specs.Prelude.{◌≡◌};
 ghost use Rattle.answer.specs.Answer.{gives};
-ghost use Rattle.answer.specs.Said.{reply_says};
+ghost use Rattle.answer.specs.Said.{says};
 ghost use Rattle.divider.specs.declared.Family.TheVariants.{H4};
 ghost use Rattle.divider.specs.Divide.{fpre_divisor, by_ahb_of};
-ghost use Rattle.divider.specs.Frequency.{rate_says, whole, over};
+ghost use Rattle.divider.specs.Frequency.{whole, over};
 ghost use Rattle.h4.specs.H4.{doubled_of};
-ghost use Rattle.capi_give.specs.Given.{Given, GivenOne, two_words, twofold_says, seven_words, sevenfold_says};
+ghost use Rattle.capi_give.specs.Given.{Given, GivenOne, two_words, seven_words};
 ghost use Rattle.capi_h4.specs.Calls.{in_hertz, bus_words_of, clocks_ahb_of};
 
-use answer::Reply;
-use capi_give::{Sevenfold, Twofold};
-use divider::Rate;
-use h4::{Prescale, Prescaled};
-use tree::Bus;
+use answer::Refusal;
+use divider::Frequency;
+use h4::Prescale;
+use tree::Clocks;
 
 // A frequency as a number.
-fn in_hertz(rate: Rate) -> Reply
-    ensures { reply_says result ≡ in_hertz (rate_says rate) }
+fn in_hertz(rate: Result<Frequency, Refusal>) -> Result<u32, Refusal>
+    ensures { says result ≡ in_hertz (says rate) }
 {
-    match rate {
-        Rate::Refused(n) => Reply::Refused(n),
-        Rate::At(x) => Reply::Is(x.hz),
-    }
+    Ok(rate?.hz)
 }
 
-fn clocks(sysclk: u32, hpre: u8, fpre: u8, ppre1: u8, ppre2: u8) -> Sevenfold
-    ensures { sevenfold_says result ≡ clocks_ahb_of sysclk hpre fpre ppre1 ppre2 }
+// What the C call hands in, made a struct.
+fn clocks(sysclk: u32, hpre: u8, fpre: u8, ppre1: u8, ppre2: u8) -> Result<(Clocks, u32), Refusal>
+    ensures { says result ≡ clocks_ahb_of sysclk hpre fpre ppre1 ppre2 }
 {
     let prescale = Prescale {
         hpre,
@@ -36,22 +33,15 @@ fn clocks(sysclk: u32, hpre: u8, fpre: u8, ppre1: u8, ppre2: u8) -> Sevenfold
         ppre1,
         ppre2,
     };
-    match h4::clocks_from_sysclk(divider::hertz(sysclk), prescale) {
-        Prescaled::Refused(n) => Sevenfold::Refused(n),
-        Prescaled::Run { ahb, clocks } => Sevenfold::Are { clocks, more: ahb },
-    }
+    let (ahb, clocks) = h4::clocks_from_sysclk(divider::hertz(sysclk), prescale)?;
+    Ok((clocks, ahb))
 }
 
-fn bus(hclk: u32, ppre: u8) -> Twofold
-    ensures { twofold_says result ≡ bus_words_of hclk ppre }
+fn bus(hclk: u32, ppre: u8) -> Result<(u32, u32), Refusal>
+    ensures { says result ≡ bus_words_of hclk ppre }
 {
-    match h4::pclk_from_hclk(divider::hertz(hclk), ppre) {
-        Bus::Refused(n) => Twofold::Refused(n),
-        Bus::Run { pclk, tim } => Twofold::Are {
-            first: pclk.hz,
-            second: tim,
-        },
-    }
+    let (pclk, tim) = h4::pclk_from_hclk(divider::hertz(hclk), ppre)?;
+    Ok((pclk.hz, tim))
 }
 
 // The clocks of a SYSCLK and the codes of the four prescalers. Gives seven words: the six clocks, and the AHB clock.
@@ -87,7 +77,7 @@ pub extern "C" fn wontabeli_h4_hclk(ahb: u32, fpre: u8, out: &mut u32) -> u8
     ensures { GivenOne (gives (over (whole ahb) (fpre_divisor fpre)).hz) out.old out.new result }
 {
     let hclk = h4::hclk_from_ahb(divider::hertz(ahb), fpre);
-    capi_give::give_one(Reply::Is(hclk.hz), out)
+    capi_give::give_one::<Refusal>(Ok(hclk.hz), out)
 }
 
 // A bus, after PPRE. Gives two words: PCLK, and its timers' clock. Refused by 32, then by 28.

@@ -1,11 +1,10 @@
 -- What the calls of CH32V1, CH32L1 and CH32V30x share: bytes that say yes or no, HSE, and what a check gives.
 -- Assumes nothing.
-use Rattle.std.specs.Prelude.{ℕ, Bool, cond, not, ◌&&◌, ◌||◌, List, eqb, leb, get_or}
+use Rattle.std.specs.Prelude.{ℕ, Bool, cond, not, ◌&&◌, ◌||◌, Option, None, Some, List, eqb, leb, get_or}
 use Rattle.answer.specs.Answer.{Answer, gives, refuse, ◌>>=◌, ◌>>◌}
 use Rattle.layout.specs.Bits.{bits_at}
 use Rattle.tree.specs.declared.Clocks.{Clocks}
-use Rattle.pll32.specs.declared.Hse.{Hse}
-use Rattle.pll32.specs.declared.Hse.TheVariants as hse
+use Rattle.tree.specs.declared.Hse.{Hse}
 use Rattle.pll32.specs.declared.ClockRecord.{ClockRecord}
 
 -- a byte of a record, and one that says yes or no: 1 or 0
@@ -28,8 +27,8 @@ record_in is value = do
 abbrev pub hse_hz_in : List ℕ → ℕ
 hse_hz_in l = bits_at l 16 32
 
-abbrev pub config_hse : Bool → Bool → ℕ → Hse
-config_hse present bypass hz = cond present (hse.Present bypass hz) hse.Absent
+abbrev pub config_hse : Bool → Bool → ℕ → Option Hse
+config_hse present bypass hz = cond present (Some (record { bypass = bypass; freq = hz })) None
 
 -- Whether HSE has bytes that a configuration may have: an absent part's are zero
 abbrev pub hse_allowed : ℕ → ℕ → ℕ → Bool

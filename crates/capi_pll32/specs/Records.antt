@@ -1,5 +1,5 @@
 -- A configuration's bytes are given back by what is read of them, and it by its bytes: every configuration has one record. Assumes nothing.
-use Rattle.std.specs.Prelude.{ℕ, zero, suc, ◌+◌, ◌*◌, ◌/◌, ◌%◌, ◌^◌, ◌<◌, ◌≡◌, refl, Bool, ◌&&◌, ◌||◌, List, [], ◌∷◌, length}
+use Rattle.std.specs.Prelude.{ℕ, zero, suc, ◌+◌, ◌*◌, ◌/◌, ◌%◌, ◌^◌, ◌<◌, ◌≡◌, refl, Bool, ◌&&◌, ◌||◌, Option, None, Some, List, [], ◌∷◌, length}
 use Rattle.std.proofs.Common.{sym, ap, ◌∙◌, arith, shr-shr}
 use Rattle.std.proofs.Math.Bool.{true, false}
 use borrow.Author.Tests.{leb-true, eqb-true, eqb-false}
@@ -7,8 +7,7 @@ use Rattle.std.proofs.Math.Dec.{eqb}
 use Rattle.layout.specs.Bits.{bit, bits_at}
 use Rattle.answer.specs.Tools.{and_left, and_right}
 use Rattle.layout.proofs.Reading.{flag_of_bit}
-use Rattle.pll32.specs.declared.Hse.{Hse}
-use Rattle.pll32.specs.declared.Hse.TheVariants as hse
+use Rattle.tree.specs.declared.Hse.{Hse}
 use Rattle.pll32.specs.declared.Source.{Source}
 use Rattle.pll32.specs.declared.Source.TheVariants as source
 use Rattle.pll32.specs.Pll.{source_of}
@@ -102,19 +101,19 @@ front : (x : ℕ) → 0 * 256 + x ≡ x
 front x = omega arith
 
 -- HSE's six bytes: whether it is there, whether it is bypassed, its frequency; no and 0 where it isn't there
-abbrev pub hse_there : Hse → Bool
-hse_there hse.Absent = false
-hse_there (hse.Present bypass hz) = true
+abbrev pub hse_there : Option Hse → Bool
+hse_there None = false
+hse_there (Some hse) = true
 
-abbrev pub hse_bypass : Hse → Bool
-hse_bypass hse.Absent = false
-hse_bypass (hse.Present bypass hz) = bypass
+abbrev pub hse_bypass : Option Hse → Bool
+hse_bypass None = false
+hse_bypass (Some hse) = hse.bypass
 
-abbrev pub hse_hz : Hse → ℕ
-hse_hz hse.Absent = 0
-hse_hz (hse.Present bypass hz) = hz
+abbrev pub hse_hz : Option Hse → ℕ
+hse_hz None = 0
+hse_hz (Some hse) = hse.freq
 
-unfoldable pub hse_bytes : Hse → List ℕ
+unfoldable pub hse_bytes : Option Hse → List ℕ
 hse_bytes h =
     bit (hse_there h) ∷ bit (hse_bypass h)
     ∷ hse_hz h / 16777216 % 256 ∷ hse_hz h / 65536 % 256 ∷ hse_hz h / 256 % 256 ∷ hse_hz h % 256 ∷ []
@@ -172,13 +171,13 @@ hse_hz_read p b hz l h =
     spelled (p ∷ b ∷ hz / 16777216 % 256 ∷ hz / 65536 % 256 ∷ hz / 256 % 256 ∷ hz % 256 ∷ l)
     (low_byte (hz / 16777216)) (low_byte (hz / 65536)) (low_byte (hz / 256)) (low_byte hz) ∙ four hz h
 
-pub hse_says : (h : Hse) → hse_allowed (bit (hse_there h)) (bit (hse_bypass h)) (hse_hz h) ≡ true
-hse_says hse.Absent = refl
-hse_says (hse.Present bypass hz) = rw (bit_says bypass) refl
+pub hse_says : (h : Option Hse) → hse_allowed (bit (hse_there h)) (bit (hse_bypass h)) (hse_hz h) ≡ true
+hse_says None = refl
+hse_says (Some hse) = rw (bit_says hse.bypass) refl
 
-pub hse_read : (h : Hse) → config_hse (yes (bit (hse_there h))) (yes (bit (hse_bypass h))) (hse_hz h) ≡ h
-hse_read hse.Absent = refl
-hse_read (hse.Present bypass hz) = ap (λ (b : Bool). hse.Present b hz) (flag_of_bit bypass)
+pub hse_read : (h : Option Hse) → config_hse (yes (bit (hse_there h))) (yes (bit (hse_bypass h))) (hse_hz h) ≡ h
+hse_read None = refl
+hse_read (Some hse) = ap (λ (b : Bool). Some (record { bypass = b; freq = hse.freq })) (flag_of_bit hse.bypass)
 
 pub source_says : (s : Source) → yes_or_no (source_byte s) ≡ true
 source_says source.Hsi = refl

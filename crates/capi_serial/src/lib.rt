@@ -4,8 +4,6 @@
 ghost use Rattle.serial.specs.Serial.{divisor_of};
 ghost use Rattle.capi_serial.specs.Calls.{GivenSerial};
 
-use serial::Serial;
-
 // BRR for a wanted rate at a bus's clock, and its error: PCLK - rate x BRR. Refused by 33: the rate is 0. Then by 34: BRR is outside 16..65,535.
 #[unsafe(no_mangle)]
 pub extern "C" fn wontabeli_serial_divisor(
@@ -17,11 +15,8 @@ pub extern "C" fn wontabeli_serial_divisor(
     ensures { GivenSerial (divisor_of pclk rate) brr.old brr.new error.old error.new result }
 {
     match serial::divisor(pclk, rate) {
-        Serial::Refused(n) => n,
-        Serial::Set {
-            brr: nearest,
-            error: left,
-        } => {
+        Err(refusal) => refusal.number(),
+        Ok((nearest, left)) => {
             *brr = nearest;
             *error = left;
             0

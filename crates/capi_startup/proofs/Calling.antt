@@ -8,8 +8,9 @@ use borrow.Author.Tests.{lt-ltb, le-ltb}
 use borrow.Rule.Slice.PartMut.{mid_of, put_mid, mid_len, put_same}
 use lib.ListN.{length, take, drop, take-append-drop}
 use Rattle.answer.specs.Answer.{Answer, gives, refuses}
-use Rattle.answer.specs.declared.Outcome.{Outcome}
-use Rattle.answer.specs.declared.Outcome.TheVariants.{Done, Refused}
+use Rattle.std.specs.Prelude.{Result, Ok, Err}
+use Rattle.answer.specs.Said.{number_of as refusal_of}
+use Rattle.answer.specs.declared.Refusal.{Refusal}
 use Rattle.layout.specs.Lent.{Wrote}
 use Rattle.image.specs.Image.{image_bytes}
 use Rattle.image.proofs.RoundTrip as image
@@ -40,7 +41,7 @@ module _ (n : ℕ) (m : Answer (ℕ × List ℕ)) (l : List ℕ) where
 
 -- the startup s does a call's work: x
 module _ (l : List ℕ) (s : Startup) (w tick : ℕ) (h : 72 ≤ length l) (q : Reading) (e : q ≡ reading_of w) (x : Stepped) (g : x ≡ step_of s q)
-    (over leaves : Bool) (a : over ≡ is_over s.phase) (b : leaves ≡ leaves_as_it_was x.report) where
+    (over leaves : Bool) (a : over ≡ is_over s.over) (b : leaves ≡ leaves_as_it_was x.report) where
   same : step_of s (reading_of w) ≡ x
   same = ap (step_of s) (sym e) ∙ sym g
 
@@ -49,19 +50,19 @@ module _ (l : List ℕ) (s : Startup) (w tick : ℕ) (h : 72 ≤ length l) (q : 
   stays t n o = left_as 72 (call_bytes l s w tick) l h n (take 72 l) l (rw (same, sym a, sym b, t, o)) (sym (take-append-drop 72 l))
 
   -- else the image is written to its part, and becomes i
-  module _ (t : over || leaves ≡ false) (i : List ℕ) (o : Outcome) (v : Wrote 8 (image_bytes x.startup.fields) (mid_of 10 8 l) i o) where
+  module _ (t : over || leaves ≡ false) (i : List ℕ) (o : Result (Unit {0}) Refusal) (v : Wrote 8 (image_bytes x.startup.fields) (mid_of 10 8 l) i o) where
     eight : length (mid_of 10 8 l) ≡ 8
     eight = let d : 18 ≤ length l = omega arith in mid_len 10 18 l d
 
-    pub unwritten : (k : ℕ) → o ≡ Refused k → Leaves 72 (call_bytes l s w tick) l (put_mid 10 8 l i) k
+    pub unwritten : (k : Refusal) → o ≡ Err k → Leaves 72 (call_bytes l s w tick) l (put_mid 10 8 l i) (refusal_of k)
     unfolding call_bytes
     unwritten k p =
         let z = not_written 8 (image_bytes x.startup.fields) (mid_of 10 8 l) i o eight v k p in
         let y : put_mid 10 8 l i ≡ l = ap (put_mid 10 8 l) z.1 ∙ put_same 10 8 l in
-        rw y (refused 72 (call_bytes l s w tick) l h k (rw (same, sym a, sym b, t, z.0)))
+        rw y (refused 72 (call_bytes l s w tick) l h (refusal_of k) (rw (same, sym a, sym b, t, z.0)))
 
     -- the counts m and the ticks r behind it
-    module _ (p : o ≡ Done) (m r : List ℕ) (c : m ≡ counts_bytes x.startup x.report)
+    module _ (p : o ≡ Ok tt) (m r : List ℕ) (c : m ≡ counts_bytes x.startup x.report)
         (d : r ≡ noted_bytes (mid_of 32 40 (put_mid 18 14 (put_mid 10 8 l i) m)) s.unmet tick x.report) where
       imaged : image_bytes x.startup.fields ≡ gives i
       imaged = written_whole 8 (image_bytes x.startup.fields) (mid_of 10 8 l) i o eight v p

@@ -1,5 +1,5 @@
 -- What the calls lay over a place's parts: each byte of the counts and of the ticks, or the first tick alone. Assumes nothing.
-use Prim.Native.Nat.{ℕ, ◌+◌, ◌≤◌}
+use Prim.Native.Nat.{ℕ, ◌+◌, ◌*◌, ◌≤◌}
 use mathlib.Core.Path.{◌≡◌, refl, sym, ap, ◌∙◌}
 use mathlib.Core.Bool.{Bool, true, false}
 use mathlib.Core.List.{List, [], ◌∷◌, ◌++◌, append-nil}
@@ -12,7 +12,7 @@ use Rattle.layout.proofs.Filling.{sets_append, numbers_put}
 use Rattle.startup.specs.declared.Report.{Report}
 use Rattle.startup.specs.declared.Startup.{Startup}
 use Rattle.ticks.specs.declared.Ticks as declared
-use Rattle.ticks.specs.Ticks.{eight_of, longest_of, meets_wait, after_of}
+use Rattle.ticks.specs.Ticks.{meets_wait, after_of}
 use Rattle.capi_startup.specs.Kept.{ticks_in, counts_bytes, ticks_bytes, noted_bytes}
 
 -- a part of which each byte is stored
@@ -45,14 +45,15 @@ pub forty : (t : declared.Ticks) → length (ticks_bytes t) ≡ 40
 unfolding ticks_bytes
 forty t = refl
 
-pub ticks_laid : (t : declared.Ticks) (longest : ℕ) (l m : List ℕ) → length l ≡ 40 → longest ≡ longest_of t.waits →
-    m ≡ with_numbers l 0 (t.first ∷ (eight_of t.waits ++ (longest ∷ []))) → m ≡ ticks_bytes t
-unfolding ticks_bytes
-ticks_laid t longest l m e q p =
-    let ns = t.first ∷ (eight_of t.waits ++ (longest ∷ [])) in
-    let h : 0 + 40 ≤ length l = omega arith in
-    p ∙ numbers_put l ns 0 h ∙ all_set l (in_fours ns) e
-    ∙ ap (λ (n : ℕ). in_fours (t.first ∷ (eight_of t.waits ++ (n ∷ [])))) q
+fours : (ns : List ℕ) → length (in_fours ns) ≡ 4 * length ns
+fours [] = refl
+fours (n ∷ ns) = let h = fours ns in omega arith
+
+-- numbers that fill their part
+pub numbers_whole : (l ns : List ℕ) → length l ≡ length (in_fours ns) → with_numbers l 0 ns ≡ in_fours ns
+numbers_whole l ns e =
+    let h : 0 + 4 * length ns ≤ length l = omega (arith, fours ns) in
+    numbers_put l ns 0 h ∙ all_set l (in_fours ns) e
 
 pub noted_length : (b : List ℕ) (unmet tick : ℕ) (report : Report) → length b ≡ 40 → length (noted_bytes b unmet tick report) ≡ 40
 unfolding noted_bytes

@@ -1,4 +1,4 @@
-mod Calling
+pub mod Calling
 pub mod Laying
-mod Placing
-mod Starting
+pub mod Placing
+pub mod Starting

@@ -7,13 +7,12 @@ use borrow.Author.Tests.{le-ltb}
 use borrow.Rule.Slice.PartMut.{mid_of, put_mid}
 use lib.ListN.{length, take, drop, length-append, take-append-drop}
 use lib.Seq.{drop-length, take_at, drop_at, drop-drop, length-take-le}
+use Rattle.std.specs.Prelude.{Result, Ok, Err}
 use Rattle.answer.specs.Answer.{Answer, gives, refuses, told, gives_refuses, same_refusal}
-use Rattle.answer.specs.Said.{outcome_says}
-use Rattle.answer.specs.declared.Outcome.{Outcome}
-use Rattle.answer.specs.declared.Outcome.TheVariants.{Done, Refused}
+use Rattle.answer.specs.Said.{says, number_of}
+use Rattle.answer.specs.declared.Refusal.{Refusal}
 use Rattle.layout.specs.Lent.{Wrote}
 use Rattle.layout.proofs.Writing.{held}
-use Rattle.capi_give.specs.Given.{Given}
 
 -- The place l' has the a bytes p in front, and behind them what l has there.
 pub record Front (a : ℕ) (l l' p : List ℕ) : Type 0 where
@@ -45,23 +44,17 @@ module _ {a : ℕ} {l l' p : List ℕ} (f : Front a l l' p) where
 none_beyond : (n : ℕ) (xs l : List ℕ) → length l ≡ n → xs ++ drop n l ≡ xs
 none_beyond n xs l e = ap (λ (k : ℕ). xs ++ drop k l) (sym e) ∙ ap (λ (x : List ℕ). xs ++ x) (drop-length l) ∙ append-nil xs
 
-pub given_whole : (xs l l' : List ℕ) (r : ℕ) → length l ≡ length xs → Given (length xs) (gives xs) l l' r → l' ≡ xs
-given_whole xs l l' r e g =
-    let h : length xs ≤ length l = omega arith in
-    let k : l' ≡ xs ++ drop (length xs) l = rw (le-ltb (length l) (length xs) h) at g.lent in
-    k ∙ none_beyond (length xs) xs l e
-
-module _ (n : ℕ) (m : Answer (List ℕ)) (l l' : List ℕ) (r : Outcome) (e : length l ≡ n) (w : Wrote n m l l' r) where
-  pub written_whole : r ≡ Done → m ≡ gives l'
+module _ (n : ℕ) (m : Answer (List ℕ)) (l l' : List ℕ) (r : Result (Unit {0}) Refusal) (e : length l ≡ n) (w : Wrote n m l l' r) where
+  pub written_whole : r ≡ Ok tt → m ≡ gives l'
   written_whole q = let k = held w q in k.gave ∙ ap gives (sym (k.lent ∙ none_beyond n k.bytes l e))
 
   fits : n ≤ length l
   fits = omega arith
 
-  pub not_written : (k : ℕ) → r ≡ Refused k → (m ≡ refuses k) × (l' ≡ l)
+  pub not_written : (k : Refusal) → r ≡ Err k → (m ≡ refuses (number_of k)) × (l' ≡ l)
   not_written k q = by_record m w
     where
-      by_record : (m : Answer (List ℕ)) → Wrote n m l l' r → (m ≡ refuses k) × (l' ≡ l)
-      by_record (gives b) w = gives_refuses (told outcome_says (rw (le-ltb (length l) n fits) at w.answer) q)
+      by_record : (m : Answer (List ℕ)) → Wrote n m l l' r → (m ≡ refuses (number_of k)) × (l' ≡ l)
+      by_record (gives b) w = gives_refuses (told says (rw (le-ltb (length l) n fits) at w.answer) q)
       by_record (refuses j) w =
-          (ap refuses (same_refusal (told outcome_says (rw (le-ltb (length l) n fits) at w.answer) q)), rw (le-ltb (length l) n fits) at w.bytes)
+          (ap refuses (same_refusal (told says (rw (le-ltb (length l) n fits) at w.answer) q)), rw (le-ltb (length l) n fits) at w.bytes)

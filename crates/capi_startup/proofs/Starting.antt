@@ -3,12 +3,10 @@ use Prim.Native.Nat.{ℕ, ◌≤◌}
 use mathlib.Core.Path.{◌≡◌, sym, ap, ◌∙◌}
 use mathlib.Core.Bool.{not}
 use mathlib.Core.List.{List, ◌++◌, append_assoc}
-use native.Mathlib.Omega.{arith}
 use borrow.Author.Tests.{eqb-true, not-false}
-use borrow.Rule.Slice.PartMut.{mid_of, put_mid, mid_len}
+use borrow.Rule.Slice.PartMut.{put_mid}
 use lib.Dec.{eqb}
-use lib.ListN.{length, take, drop}
-use lib.Seq.{length-take-le}
+use lib.ListN.{length, drop}
 use Rattle.answer.specs.Answer.{Answer, gives, refuse, ◌>>◌, bound, passed}
 use Rattle.image.specs.Image.{read_image}
 use Rattle.profile.specs.Profile.{read_profile}
@@ -21,7 +19,7 @@ use Rattle.capi_give.specs.Giving.{given_as}
 use Rattle.capi_startup.specs.Kept.{counts_bytes, ticks_bytes}
 use Rattle.capi_startup.specs.Calls.{start_read, start_bytes}
 use Rattle.capi_startup.proofs.Laying.{fourteen, forty}
-use Rattle.capi_startup.proofs.Placing.{Front, still, laid, given_whole}
+use Rattle.capi_startup.proofs.Placing.{Front, laid}
 
 -- what a test of the length lets through has that length
 of_length : {A : Type 0} (k n : ℕ) (s : List ℕ) (m : Answer A) {a : A} → (◌>>◌ (refuse k (not (eqb (length s) n))) m) ≡ gives a → length s ≡ n
@@ -35,17 +33,18 @@ module _ (p i : List ℕ) (s : Startup) (g : start_read p i ≡ gives s) where
       let f = bound (read_image i) _ c.after in
       (of_length 29 10 p _ c.gave, of_length 31 8 i _ f.gave)
 
-  -- the place's parts as the four calls leave them
-  pub begun : (l a b m r : List ℕ) (j k : ℕ) (x : Ticked) → 72 ≤ length l → Given (length p) (gives p) (take 10 l) a j →
-      Given (length i) (gives i) (mid_of 10 8 (a ++ drop 10 l)) b k → m ≡ counts_bytes s (Worked 0 0) → x ≡ begun_with s → r ≡ ticks_bytes x.ticks →
+  pub profile_size : length p ≡ 10
+  profile_size = read.0
+
+  pub image_size : length i ≡ 8
+  image_size = read.1
+
+  -- the place's parts as they are laid, one behind another
+  pub begun : (l a b m r : List ℕ) (x : Ticked) → 72 ≤ length l → a ≡ p → b ≡ i → m ≡ counts_bytes s (Worked 0 0) → x ≡ begun_with s → r ≡ ticks_bytes x.ticks →
       Given 72 (start_bytes p i) l (put_mid 32 40 (put_mid 18 14 (put_mid 10 8 (a ++ drop 10 l) b) m) r) 0
   unfolding start_bytes
-  begun l a b m r j k x h u v c o d =
-      let e10 : 10 ≤ length l = omega arith in
-      let e18 : 18 ≤ length l = omega arith in
-      let profile : a ≡ p = given_whole p (take 10 l) a j (length-take-le 10 l e10 ∙ sym read.0) u in
+  begun l a b m r x h profile image c o d =
       let front : Front 10 l (a ++ drop 10 l) p = record { size = read.0; bytes = ap (λ (y : List ℕ). y ++ drop 10 l) profile } in
-      let image : b ≡ i = given_whole i (mid_of 10 8 (a ++ drop 10 l)) b k (ap length (still front 8) ∙ mid_len 10 18 l e18 ∙ sym read.1) v in
       let ticks : r ≡ ticks_bytes (begun_with s).ticks = d ∙ ap (λ (y : Ticked). ticks_bytes y.ticks) o in
       let counted = laid (laid front 8 b (ap length image ∙ read.1)) 14 m (ap length c ∙ fourteen s (Worked 0 0)) in
       given_as 72 (start_bytes p i) l (p ++ (i ++ (m ++ r))) _ h (rw (g, sym c, sym ticks))

@@ -45,7 +45,7 @@ start_bytes p i = do
 unfoldable pub call_bytes : List ℕ → Startup → ℕ → ℕ → Answer (ℕ × List ℕ)
 call_bytes l s w tick =
     let x = step_of s (reading_of w) in
-    cond (is_over s.phase || leaves_as_it_was x.report) (gives (number_of x.report, take 72 l)) (do
+    cond (is_over s.over || leaves_as_it_was x.report) (gives (number_of x.report, take 72 l)) (do
       i ← image_bytes x.startup.fields
       gives (number_of x.report, take 10 l ++ (i ++ (counts_bytes x.startup x.report ++ noted_bytes (ticks_part l) s.unmet tick x.report))))
 

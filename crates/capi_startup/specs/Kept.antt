@@ -3,7 +3,7 @@
 -- 30 the step that it names, 31 zero; and its ticks: 32 to 35 that of the first reading of the wait whose turn it is, 36 to 67 those of the eight waits, four
 -- bytes each, 68 to 71 the longest of them. A call doesn't look at 28 to 31 and at 68 to 71.
 -- Assumes nothing.
-use Rattle.std.specs.Prelude.{ℕ, ◌+◌, cond, ◌||◌, List, [], ◌∷◌, ◌++◌, eqb, get_or, take, drop}
+use Rattle.std.specs.Prelude.{ℕ, ◌+◌, cond, ◌||◌, Option, None, Some, List, [], ◌∷◌, ◌++◌, eqb, get_or, take, drop}
 use Rattle.answer.specs.Answer.{Answer, gives, ◌>>=◌}
 use Rattle.layout.specs.Layout.{num}
 use Rattle.layout.specs.Numbers.{in_fours}
@@ -13,8 +13,6 @@ use Rattle.image.specs.declared.Fields.{Fields}
 use Rattle.image.specs.Image.{read_image}
 use Rattle.startup.specs.declared.Report.{Report}
 use Rattle.startup.specs.declared.Report.TheVariants.{Worked, Waiting, Running, Failed, Refused}
-use Rattle.startup.specs.declared.Phase.{Phase}
-use Rattle.startup.specs.declared.Phase.TheVariants.{Going, Over}
 use Rattle.startup.specs.declared.Startup.{Startup}
 use Rattle.startup.specs.Call.{number_of, named_step}
 use Rattle.ticks.specs.declared.Ticks as declared
@@ -22,12 +20,12 @@ use Rattle.ticks.specs.declared.Ticked.{Ticked}
 use Rattle.ticks.specs.Ticks.{eight_of, longest_of, meets_wait, after_of}
 
 -- A phase by its number: 0 going, 1 running, 21, 22 and 23 over by that refusal. Another number is as good as 28. No call leaves it, nor 23.
-unfoldable pub phase_of : ℕ → ℕ → ℕ → Phase
+unfoldable pub phase_of : ℕ → ℕ → ℕ → Option Report
 phase_of tag step used =
-    cond (eqb tag 0) Going
-    (cond (eqb tag 1) (Over (Running step used))
-    (cond (eqb tag 21 || eqb tag 22) (Over (Failed tag step used))
-    (cond (eqb tag 23) (Over (Refused 23)) (Over (Refused 28)))))
+    cond (eqb tag 0) None
+    (cond (eqb tag 1) (Some (Running step used))
+    (cond (eqb tag 21 || eqb tag 22) (Some (Failed tag step used))
+    (cond (eqb tag 23) (Some (Refused 23)) (Some (Refused 28)))))
 
 abbrev pub last_tag : Report → ℕ
 last_tag (Worked step used) = 28
@@ -36,9 +34,9 @@ last_tag (Running step used) = 1
 last_tag (Failed number step used) = number
 last_tag (Refused number) = number
 
-abbrev pub tag_of : Phase → ℕ
-tag_of Going = 0
-tag_of (Over last) = last_tag last
+abbrev pub tag_of : Option Report → ℕ
+tag_of None = 0
+tag_of (Some last) = last_tag last
 
 -- how a call went: 0 the step is worked, 1 waiting, 2 over and running, 3 over by a refusal
 abbrev pub report_tag : Report → ℕ
@@ -60,7 +58,7 @@ standing_of c f l = record {
   step = get_or l 18 0;
   unmet = number_at l 19;
   used = number_at l 23;
-  phase = phase_of (get_or l 27 0) (get_or l 18 0) (number_at l 23);
+  over = phase_of (get_or l 27 0) (get_or l 18 0) (number_at l 23);
 }
 
 -- the startup of a place: 30 by its profile, 31 by its image
@@ -99,7 +97,7 @@ kept_of l = do
 unfoldable pub counts_bytes : Startup → Report → List ℕ
 counts_bytes s report =
     s.step ∷ (in_fours (s.unmet ∷ s.used ∷ [])
-    ++ (tag_of s.phase ∷ report_tag report ∷ number_of report ∷ named_step report ∷ 0 ∷ []))
+    ++ (tag_of s.over ∷ report_tag report ∷ number_of report ∷ named_step report ∷ 0 ∷ []))
 
 -- and of its ticks: the first one, the eight waits', the longest
 unfoldable pub ticks_bytes : declared.Ticks → List ℕ

@@ -19,14 +19,14 @@ module _ (l : List ℕ) (s : Startup) (w tick : ℕ) where
   Stays = call_bytes l s w tick ≡ gives (number_of report, take 72 l)
 
   -- "After the end, a call changes nothing."
-  pub over_stays : is_over s.phase ≡ true → Stays
+  pub over_stays : is_over s.over ≡ true → Stays
   unfolding call_bytes
   over_stays e = rw e
 
   -- 23 and 28 leave the place as it was.
   pub refused_stays : leaves_as_it_was report ≡ true → Stays
   unfolding call_bytes
-  refused_stays e = rw (e, either_way (is_over s.phase))
+  refused_stays e = rw (e, either_way (is_over s.over))
     where
       either_way : (b : Bool) → b || true ≡ true
       either_way true = refl

@@ -1,6 +1,6 @@
 -- The order of the C calls' refusals: the readers' lists, then the call's own. That 32 comes first of all is `Given`'s.
 -- Assumes nothing.
-use Rattle.std.specs.Prelude.{ℕ, true, not, List, [], ◌∷◌, ◌++◌, eqb, take, drop}
+use Rattle.std.specs.Prelude.{ℕ, true, not, Option, None, Some, List, [], ◌∷◌, ◌++◌, eqb, take, drop}
 use Rattle.answer.specs.Answer.{Answer, gives, refuses}
 use Rattle.answer.specs.Order.{Test, InOrder, behind, order_gives, order_behind}
 use Rattle.v4x7.specs.declared.Config.{Config}
@@ -10,8 +10,6 @@ use Rattle.profile.specs.Profile.{read_profile}
 use Rattle.image.specs.Image.{in_width, read_image}
 use Rattle.startup.specs.declared.Reading.{Reading}
 use Rattle.startup.specs.declared.Report.{Report}
-use Rattle.startup.specs.declared.Phase.{Phase}
-use Rattle.startup.specs.declared.Phase.TheVariants.{Going, Over}
 use Rattle.startup.specs.declared.Startup.{Startup}
 use Rattle.startup.specs.Call.{number_of}
 use Rattle.startup.specs.Order.{start_tests, step_tests}
@@ -48,12 +46,12 @@ over_tests s last =
     (28, eqb (number_of last) 28) ∷  -- its place has a phase number that no starting leads to
     []
 
-abbrev phase_tests : Phase → Startup → Reading → List Test
-phase_tests Going s r = going_tests (check_of s.config) s r
-phase_tests (Over last) s r = over_tests s last
+abbrev phase_tests : Option Report → Startup → Reading → List Test
+phase_tests None s r = going_tests (check_of s.config) s r
+phase_tests (Some last) s r = over_tests s last
 
 abbrev pub called_tests : Startup → Reading → List Test
-called_tests s r = phase_tests s.phase s r
+called_tests s r = phase_tests s.over s r
 
 abbrev pub step_read_tests : List Test → List Test → List ℕ → ℕ → List Test
 step_read_tests profile image l w =

@@ -1,6 +1,6 @@
 // A startup with its ticks, which the host keeps in 72 lent bytes.
 ghost use Rattle.std.specs.Prelude.{◌≡◌, ◌+◌, ◌≤◌, length};
-ghost use Rattle.startup.specs.Call.{started_says};
+ghost use Rattle.answer.specs.Said.{says};
 ghost use Rattle.capi_startup.specs.Kept.{phase_of, last_tag, tag_of, report_tag, number_at, standing_of, startup_in, ticks_in, counts_bytes, ticks_bytes, noted_bytes};
 
 use crate::{
@@ -8,33 +8,36 @@ use crate::{
     PLACE_STEP, PLACE_UNMET, PLACE_USED, REPORT_FAILED, REPORT_RUNNING, REPORT_WAITING,
     REPORT_WORKED,
 };
-use image::{Fields, ReadImage};
-use profile::ReadProfile;
-use startup::{Phase, Report, Started, Startup, named_step, number};
+use answer::Refusal;
+use image::Fields;
+use startup::{Report, Startup, named_step, number};
 use ticks::{Ticks, Waits};
 use v4x7::Config;
 
+// The numbers of the refusals that a startup can be over by.
+const WAIT_FAILED: u8 = Refusal::WaitFailed as u8;
+
+const FLASH_MODE_DIFFERS: u8 = Refusal::FlashModeDiffers as u8;
+
+const CLOCKS_DIFFER: u8 = Refusal::ClocksDiffer as u8;
+
+const CODE_NOT_ALLOWED: u8 = Refusal::CodeNotAllowed as u8;
+
 // A phase by its byte: 0 going, 1 running, 21 and 22 how it failed. No call leaves any other: 23 is over by 23, and the rest is as good as 28.
-fn phase(tag: u8, step: u8, used: u32) -> Phase
+fn phase(tag: u8, step: u8, used: u32) -> Option<Report>
     ensures { result ≡ phase_of tag step used }
 {
-    if tag == PHASE_GOING {
-        return Phase::Going;
-    }
-    if tag == PHASE_RUNNING {
-        return Phase::Over(Report::Running { step, used });
-    }
-    if (tag == answer::WAIT_FAILED) | (tag == answer::FLASH_MODE_DIFFERS) {
-        return Phase::Over(Report::Failed {
+    match tag {
+        PHASE_GOING => None,
+        PHASE_RUNNING => Some(Report::Running { step, used }),
+        WAIT_FAILED | FLASH_MODE_DIFFERS => Some(Report::Failed {
             number: tag,
             step,
             used,
-        });
+        }),
+        CLOCKS_DIFFER => Some(Report::Refused(CLOCKS_DIFFER)),
+        _ => Some(Report::Refused(CODE_NOT_ALLOWED)),
     }
-    if tag == answer::CLOCKS_DIFFER {
-        return Phase::Over(Report::Refused(answer::CLOCKS_DIFFER));
-    }
-    Phase::Over(Report::Refused(answer::CODE_NOT_ALLOWED))
 }
 
 // The byte of an end. Worked and waiting end nothing.
@@ -42,26 +45,17 @@ fn last_tag(last: Report) -> u8
     ensures { result ≡ last_tag last }
 {
     match last {
-        Report::Worked { step: _, used: _ } => answer::CODE_NOT_ALLOWED,
-        Report::Waiting { step: _, used: _ } => answer::CODE_NOT_ALLOWED,
-        Report::Running { step: _, used: _ } => PHASE_RUNNING,
-        Report::Failed {
-            number,
-            step: _,
-            used: _,
-        } => number,
-        Report::Refused(n) => n,
+        Report::Worked { .. } | Report::Waiting { .. } => CODE_NOT_ALLOWED,
+        Report::Running { .. } => PHASE_RUNNING,
+        Report::Failed { number, .. } | Report::Refused(number) => number,
     }
 }
 
 // A phase's byte.
-fn tag(phase: Phase) -> u8
-    ensures { result ≡ tag_of phase }
+fn tag(over: Option<Report>) -> u8
+    ensures { result ≡ tag_of over }
 {
-    match phase {
-        Phase::Going => PHASE_GOING,
-        Phase::Over(last) => last_tag(last),
-    }
+    over.map_or(PHASE_GOING, last_tag)
 }
 
 // What came of a call, in one byte.
@@ -69,15 +63,10 @@ fn report_tag(report: Report) -> u8
     ensures { result ≡ report_tag report }
 {
     match report {
-        Report::Worked { step: _, used: _ } => REPORT_WORKED,
-        Report::Waiting { step: _, used: _ } => REPORT_WAITING,
-        Report::Running { step: _, used: _ } => REPORT_RUNNING,
-        Report::Failed {
-            number: _,
-            step: _,
-            used: _,
-        } => REPORT_FAILED,
-        Report::Refused(_) => REPORT_FAILED,
+        Report::Worked { .. } => REPORT_WORKED,
+        Report::Waiting { .. } => REPORT_WAITING,
+        Report::Running { .. } => REPORT_RUNNING,
+        Report::Failed { .. } | Report::Refused(_) => REPORT_FAILED,
     }
 }
 
@@ -102,22 +91,18 @@ fn standing(config: Config, fields: Fields, place: &[u8]) -> Startup
         step,
         unmet: number_at(place, PLACE_UNMET),
         used,
-        phase: phase(place[PLACE_PHASE], step, used),
+        over: phase(place[PLACE_PHASE], step, used),
     }
 }
 
 // The startup that a place holds.
-pub fn kept(place: &[u8]) -> Started
+pub fn kept(place: &[u8]) -> Result<Startup, Refusal>
     requires { 32 ≤ length place.now }
-    ensures { started_says result ≡ startup_in place.now }
+    ensures { says result ≡ startup_in place.now }
 {
-    match profile::read_profile(&place[..PLACE_IMAGE]) {
-        ReadProfile::Refused(n) => Started::NotStarted(n),
-        ReadProfile::Profile(config) => match image::read_image(&place[PLACE_IMAGE..PLACE_STEP]) {
-            ReadImage::Refused(n) => Started::NotStarted(n),
-            ReadImage::Image(fields) => Started::Begun(standing(config, fields, place)),
-        },
-    }
+    let config = profile::read_profile(&place[..PLACE_IMAGE])?;
+    let fields = image::read_image(&place[PLACE_IMAGE..PLACE_STEP])?;
+    Ok(standing(config, fields, place))
 }
 
 // The ticks of a place: its last 40 bytes.
@@ -141,6 +126,7 @@ fn ticks_in(part: &[u8]) -> Ticks
 }
 
 // Lays the ticks over a place's last 40 bytes: the first one, the eight waits', the longest.
+#[tactic(auto, using(crate::proofs::Laying::numbers_whole), unfolding(crate::specs::Kept::ticks_bytes))]
 pub fn lay_ticks(t: Ticks, part: &mut [u8])
     requires { length part.old ≡ 40 }
     ensures { part.new ≡ ticks_bytes t }
@@ -162,6 +148,7 @@ pub fn lay_ticks(t: Ticks, part: &mut [u8])
 }
 
 // The ticks of a place after a call: all of them where it met a wait, and otherwise the first one alone, since the others are as they were.
+#[tactic(auto, using(crate::proofs::Laying::all_noted, crate::proofs::Laying::first_noted))]
 pub fn note(unmet: u32, tick: u32, report: Report, part: &mut [u8])
     requires { length part.old ≡ 40 }
     ensures { part.new ≡ noted_bytes part.old unmet tick report }
@@ -171,20 +158,19 @@ pub fn note(unmet: u32, tick: u32, report: Report, part: &mut [u8])
         lay_ticks(t, part);
         return;
     }
-    let first = [t.first];
-    layout::put_numbers(part, 0, &first);
+    layout::put_numbers(part, 0, &[t.first]);
 }
 
 // Lays over a place what stands between image and ticks: step, counts, phase, and what came of the last call.
+#[tactic(auto, using(crate::proofs::Laying::counts_laid), unfolding(crate::specs::Kept::counts_bytes))]
 pub fn lay_counts(startup: Startup, report: Report, part: &mut [u8])
     requires { length part.old ≡ 14 }
     ensures { part.new ≡ counts_bytes startup report }
 {
-    let phase = startup.phase;
     let numbers = [startup.unmet, startup.used];
     part[0] = startup.step;
     layout::put_numbers(part, PLACE_UNMET - PLACE_STEP, &numbers);
-    part[PLACE_PHASE - PLACE_STEP] = tag(phase);
+    part[PLACE_PHASE - PLACE_STEP] = tag(startup.over);
     part[PLACE_REPORT - PLACE_STEP] = report_tag(report);
     part[PLACE_NUMBER - PLACE_STEP] = number(report);
     part[PLACE_NAMED - PLACE_STEP] = named_step(report);

@@ -1,18 +1,17 @@
 // The V4x7 startup for C and Rust: a startup with its ticks, which the host keeps in 72 lent bytes.
-#![tactic(auto)]
+#![tactic(auto, unfolding(crate::specs::Kept::phase_of, crate::specs::Kept::standing_of, crate::specs::Kept::startup_in, crate::specs::Kept::ticks_in, crate::specs::Calls::reading_of, crate::specs::Calls::start_read, crate::specs::Calls::start_bytes, crate::specs::Calls::step_bytes))]
 
 mod kept;
 
 ghost use Rattle.std.specs.Prelude.{◌≡◌, ◌≤◌, length};
-ghost use Rattle.startup.specs.Call.{started_says};
+ghost use Rattle.answer.specs.Said.{says};
 ghost use Rattle.capi_give.specs.Given.{Given};
 ghost use Rattle.capi_startup.specs.Calls.{reading_of, start_read, start_bytes, call_bytes, step_bytes, Leaves};
 
-use answer::Outcome;
-use image::{ReadImage, Seen};
+use answer::Refusal;
+use image::Seen;
 use kept::{kept, lay_counts, lay_ticks, note};
-use profile::ReadProfile;
-use startup::{Reading, Report, Started, Startup, number};
+use startup::{Reading, Report, Startup, Stepped, number};
 use ticks::Ticked;
 
 // A place's bytes. Its first ten are the profile.
@@ -39,6 +38,8 @@ pub const PLACE_FIRST_TICK: usize = 32;
 pub const PLACE_TICKS: usize = 36;
 // The longest of them, four bytes.
 pub const PLACE_LONGEST: usize = 68;
+
+// The phases and reports are numbers: they are bytes that C hosts read.
 
 // In byte PLACE_PHASE: not over, call again.
 pub const PHASE_GOING: u8 = 0;
@@ -85,34 +86,31 @@ fn reading(w: u16) -> Reading
     }
 }
 
-fn begin(p: &[u8], i: &[u8]) -> Started
-    ensures { started_says result ≡ start_read p.now i.now }
+fn begin(p: &[u8], i: &[u8]) -> Result<Startup, Refusal>
+    ensures { says result ≡ start_read p.now i.now }
 {
-    match profile::read_profile(p) {
-        ReadProfile::Refused(n) => Started::NotStarted(n),
-        ReadProfile::Profile(config) => match image::read_image(i) {
-            ReadImage::Refused(n) => Started::NotStarted(n),
-            ReadImage::Image(fields) => Startup::start(config, fields),
-        },
-    }
+    let config = profile::read_profile(p)?;
+    let fields = image::read_image(i)?;
+    Startup::start(config, fields)
 }
 
 // Starts a startup with a profile of ten bytes and the image of the registers as they are, eight bytes, and keeps it in the place's first 72 bytes.
 // Refused by 32, 29, 30, 31, then by the check's 1 to 16; the place then stays as it was.
+#[tactic(auto, using(crate::proofs::Starting::profile_size, crate::proofs::Starting::image_size), unfolding(crate::specs::Calls::start_bytes))]
 #[unsafe(no_mangle)]
 pub extern "C" fn wontabeli_start(p: &[u8], i: &[u8], place: &mut [u8]) -> u8
     ensures { Given 72 (start_bytes p.now i.now) place.old place.new result }
 {
     if place.len() < PLACE_SIZE {
-        return answer::OUTPUT_TOO_SHORT;
+        return Refusal::OutputTooShort.number();
     }
     match begin(p, i) {
-        Started::NotStarted(n) => n,
-        Started::Begun(startup) => {
+        Err(refusal) => refusal.number(),
+        Ok(startup) => {
             let ticked = Ticked::begin(startup);
             let report = Report::Worked { step: 0, used: 0 };
-            capi_give::give_bytes(p, &mut place[..PLACE_IMAGE]);
-            capi_give::give_bytes(i, &mut place[PLACE_IMAGE..PLACE_STEP]);
+            place[..PLACE_IMAGE].copy_from_slice(p);
+            place[PLACE_IMAGE..PLACE_STEP].copy_from_slice(i);
             lay_counts(startup, report, &mut place[PLACE_STEP..PLACE_FIRST_TICK]);
             lay_ticks(ticked.ticks, &mut place[PLACE_FIRST_TICK..PLACE_SIZE]);
             0
@@ -126,24 +124,20 @@ fn call(startup: Startup, w: u16, tick: u32, place: &mut [u8]) -> u8
     requires { 72 ≤ length place.old }
     ensures { Leaves 72 (call_bytes place.old startup w tick) place.old place.new result }
 {
-    let phase = startup.phase;
-    let unmet = startup.unmet;
-    let x = startup.step(reading(w));
-    let after = x.startup;
-    let report = x.report;
-    if ticks::is_over(phase) | place::leaves_as_it_was(report) {
+    let Stepped {
+        startup: after,
+        report,
+    } = startup.step(reading(w));
+    if startup.over.is_some() | place::leaves_as_it_was(report) {
         return number(report);
     }
     // It refuses no startup that is worked: its fields are in width.
-    if let Outcome::Refused(n) = image::write_image(
-        after.fields,
-        &mut place[PLACE_IMAGE..PLACE_STEP],
-    ) {
-        return n;
+    if let Err(refusal) = image::write_image(after.fields, &mut place[PLACE_IMAGE..PLACE_STEP]) {
+        return refusal.number();
     }
     lay_counts(after, report, &mut place[PLACE_STEP..PLACE_FIRST_TICK]);
     note(
-        unmet,
+        startup.unmet,
         tick,
         report,
         &mut place[PLACE_FIRST_TICK..PLACE_SIZE],
@@ -159,10 +153,10 @@ pub extern "C" fn wontabeli_step(place: &mut [u8], w: u16, tick: u32) -> u8
     ensures { Leaves 72 (step_bytes place.old w tick) place.old place.new result }
 {
     if place.len() < PLACE_SIZE {
-        return answer::OUTPUT_TOO_SHORT;
+        return Refusal::OutputTooShort.number();
     }
     match kept(place) {
-        Started::NotStarted(n) => n,
-        Started::Begun(startup) => call(startup, w, tick, place),
+        Err(refusal) => refusal.number(),
+        Ok(startup) => call(startup, w, tick, place),
     }
 }

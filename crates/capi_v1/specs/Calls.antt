@@ -1,6 +1,6 @@
 -- The calls of CH32V1 and CH32L1 on bytes.
 -- Assumes nothing.
-use Rattle.std.specs.Prelude.{ℕ, Bool, cond, not, ◌&&◌, ◌||◌, List, [], ◌∷◌, eqb, ltb, length}
+use Rattle.std.specs.Prelude.{ℕ, Bool, cond, not, ◌&&◌, ◌||◌, Option, None, Some, List, [], ◌∷◌, eqb, ltb, length}
 use Rattle.answer.specs.Answer.{Answer, gives, refuse, ◌>>=◌, ◌>>◌}
 use Rattle.layout.specs.Bits.{bit}
 use Rattle.tree.specs.declared.Clocks.{Clocks}
@@ -10,7 +10,6 @@ use Rattle.v1.specs.declared.Chip.{Chip}
 use Rattle.v1.specs.declared.Chip.TheVariants as chip
 use Rattle.v1.specs.declared.PllPreDiv.TheVariants as prediv
 use Rattle.v1.specs.declared.Pll.{Pll}
-use Rattle.v1.specs.declared.Pll.TheVariants as pll
 use Rattle.v1.specs.declared.Config.{Config}
 use Rattle.v1.specs.declared.Fields.{Fields}
 use Rattle.v1.specs.V1.{check_of, decode_of, fields_of}
@@ -21,8 +20,9 @@ use Rattle.capi_pll32.specs.Bytes.{at, yes, yes_or_no, hse_hz_in, config_hse, hs
 abbrev pub chip_of : ℕ → Chip
 chip_of part = cond (eqb part 0) chip.V1 chip.L1
 
-abbrev pub config_pll : Bool → Bool → ℕ → Pll
-config_pll present halved mul = cond present (cond halved (pll.Present prediv.Div2 mul) (pll.Present prediv.Div1 mul)) pll.Absent
+abbrev pub config_pll : Bool → Bool → ℕ → Option Pll
+config_pll present halved mul =
+    cond present (cond halved (Some (record { prediv = prediv.Div2; mul = mul })) (Some (record { prediv = prediv.Div1; mul = mul }))) None
 
 -- A configuration of 14 bytes: 0 HSE present, 1 bypass, 2 to 5 its frequency, 6 the system clock, 7 PLL from HSE, 8 PLL present, 9 its input halved,
 -- 10 its multiplier's code, 11 AHB, 12 APB1, 13 APB2

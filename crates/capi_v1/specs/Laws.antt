@@ -1,6 +1,6 @@
 -- Laws of the records of CH32V1 and CH32L1: a configuration has one, and the bytes that fields are given as are read as these fields.
 -- Assumes nothing.
-use Rattle.std.specs.Prelude.{ℕ, ◌<◌, ◌≡◌, refl, Bool, ◌&&◌, ◌||◌, List, [], ◌∷◌, ◌++◌}
+use Rattle.std.specs.Prelude.{ℕ, ◌<◌, ◌≡◌, refl, Bool, ◌&&◌, ◌||◌, Option, None, Some, List, [], ◌∷◌, ◌++◌}
 use Rattle.std.proofs.Common.{sym, eqb-true}
 use Rattle.std.proofs.Math.Bool.{true, false}
 use Rattle.std.proofs.Math.Dec.{eqb}
@@ -8,30 +8,30 @@ use Rattle.answer.specs.Answer.{gives}
 use Rattle.layout.proofs.Reading.{flag_of_bit}
 use Rattle.answer.specs.Tools.{and_left, and_right}
 use Rattle.v1.specs.declared.Pll.{Pll}
-use Rattle.v1.specs.declared.Pll.TheVariants as pll
 use Rattle.v1.specs.declared.Config.{Config}
 use Rattle.v1.specs.declared.Fields.{Fields}
 use Rattle.v1.specs.V1.{prediv_code}
 use Rattle.capi_pll32.specs.Bytes.{at, yes, yes_or_no, record_in, hse_hz_in, hse_allowed}
 use Rattle.capi_pll32.specs.Records.{listed, same, said_as, three_said, of_one, bit_says, or_else, source_byte, source_back, source_says, source_read, hse_there, hse_bypass, hse_hz, hse_bytes, hse_back, hse_says, hse_read, hse_hz_read}
 use Rattle.layout.specs.Bits.{bit}
+use Rattle.v1.specs.declared.PllPreDiv.{PllPreDiv}
 use Rattle.v1.specs.declared.PllPreDiv.TheVariants as prediv
 use Rattle.capi_v1.specs.Calls.{config_pll, config_of, config_allowed, is_config, fields_in, fields_allowed, is_fields, bytes_of}
 
 -- a PLL's three bytes: whether it is there, whether its input is halved, its multiplier's code
-abbrev pub pll_there : Pll → Bool
-pll_there pll.Absent = false
-pll_there (pll.Present prediv mul) = true
+abbrev pub pll_there : Option Pll → Bool
+pll_there None = false
+pll_there (Some pll) = true
 
-abbrev pub pll_less : Pll → ℕ
-pll_less pll.Absent = 0
-pll_less (pll.Present prediv mul) = prediv_code prediv
+abbrev pub pll_less : Option Pll → ℕ
+pll_less None = 0
+pll_less (Some pll) = prediv_code pll.prediv
 
-abbrev pub pll_mul : Pll → ℕ
-pll_mul pll.Absent = 0
-pll_mul (pll.Present prediv mul) = mul
+abbrev pub pll_mul : Option Pll → ℕ
+pll_mul None = 0
+pll_mul (Some pll) = pll.mul
 
-unfoldable pub pll_bytes : Pll → List ℕ
+unfoldable pub pll_bytes : Option Pll → List ℕ
 pll_bytes p = bit (pll_there p) ∷ pll_less p ∷ pll_mul p ∷ []
 
 -- the record of a configuration
@@ -70,15 +70,21 @@ back l small h =
 pub one_record : (l : List ℕ) → ((i : ℕ) → at l i < 256) → is_config l ≡ true → l ≡ config_bytes (config_of l)
 one_record l small = of_one 14 l (config_allowed l) (back l small)
 
-pll_says : (p : Pll) → (yes_or_no (bit (pll_there p)) && yes_or_no (pll_less p) && (yes (bit (pll_there p)) || eqb (pll_less p) 0 && eqb (pll_mul p) 0)) ≡ true
-pll_says pll.Absent = refl
-pll_says (pll.Present prediv.Div1 mul) = refl
-pll_says (pll.Present prediv.Div2 mul) = refl
+prediv_says : (d : PllPreDiv) → yes_or_no (prediv_code d) ≡ true
+prediv_says prediv.Div1 = refl
+prediv_says prediv.Div2 = refl
 
-pll_read : (p : Pll) → config_pll (yes (bit (pll_there p))) (yes (pll_less p)) (pll_mul p) ≡ p
-pll_read pll.Absent = refl
-pll_read (pll.Present prediv.Div1 mul) = refl
-pll_read (pll.Present prediv.Div2 mul) = refl
+pll_says : (p : Option Pll) → (yes_or_no (bit (pll_there p)) && yes_or_no (pll_less p) && (yes (bit (pll_there p)) || eqb (pll_less p) 0 && eqb (pll_mul p) 0)) ≡ true
+pll_says None = refl
+pll_says (Some pll) = rw (prediv_says pll.prediv) refl
+
+prediv_read : (d : PllPreDiv) (mul : ℕ) → config_pll true (yes (prediv_code d)) mul ≡ Some (record { prediv = d; mul = mul })
+prediv_read prediv.Div1 mul = refl
+prediv_read prediv.Div2 mul = refl
+
+pll_read : (p : Option Pll) → config_pll (yes (bit (pll_there p))) (yes (pll_less p)) (pll_mul p) ≡ p
+pll_read None = refl
+pll_read (Some pll) = prediv_read pll.prediv pll.mul
 
 -- and every configuration has it: its bytes are read as the configuration
 pub config_read_back : (c : Config) → hse_hz c.hse < 4294967296 → record_in (is_config (config_bytes c)) (config_of (config_bytes c)) ≡ gives c

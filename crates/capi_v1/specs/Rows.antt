@@ -1,14 +1,12 @@
 -- Worked records of CH32V1 and CH32L1: bytes, and what is read of them. Each byte that says yes or no is once 1 and once 0.
 -- Assumes nothing.
-use Rattle.std.specs.Prelude.{◌≡◌, refl, true, false, List, [], ◌∷◌, ℕ}
+use Rattle.std.specs.Prelude.{◌≡◌, refl, true, false, None, Some, List, [], ◌∷◌, ℕ}
 use Rattle.answer.specs.Answer.{Answer, gives, refuses}
 use Rattle.layout.specs.Bits.{bits_at}
-use Rattle.pll32.specs.declared.Hse.TheVariants as hse
 use Rattle.pll32.specs.declared.Source.TheVariants as source
 use Rattle.pll32.specs.Answers.{Worked}
 use Rattle.v1.specs.declared.Chip.TheVariants as chip
 use Rattle.v1.specs.declared.PllPreDiv.TheVariants.{Div1, Div2}
-use Rattle.v1.specs.declared.Pll.TheVariants as pll
 use Rattle.v1.specs.declared.Config.{Config}
 use Rattle.v1.specs.declared.Fields.{Fields}
 use Rattle.capi_pll32.specs.Bytes.{record_in}
@@ -23,10 +21,10 @@ pub configs : List (List ℕ × Answer Config)
 configs = (
   1 ∷ 0 ∷ 1 ∷ 125 ∷ 120 ∷ 64 ∷ 2 ∷ 1 ∷ 1 ∷ 1 ∷ 6 ∷ 8 ∷ 4 ∷ 5 ∷ [],
   gives (record {
-    hse = hse.Present false 25000000;
+    hse = Some (record { bypass = false; freq = 25000000 });
     sys = 2;
     pll_src = source.Hse;
-    pll = pll.Present Div2 6;
+    pll = Some (record { prediv = Div2; mul = 6 });
     ahb_pre = 8;
     apb1_pre = 4;
     apb2_pre = 5;
@@ -35,10 +33,10 @@ configs = (
     ∷ (
       1 ∷ 1 ∷ 0 ∷ 0 ∷ 0 ∷ 1 ∷ 1 ∷ 0 ∷ 1 ∷ 0 ∷ 7 ∷ 0 ∷ 0 ∷ 0 ∷ [],
       gives (record {
-        hse = hse.Present true 1;
+        hse = Some (record { bypass = true; freq = 1 });
         sys = 1;
         pll_src = source.Hsi;
-        pll = pll.Present Div1 7;
+        pll = Some (record { prediv = Div1; mul = 7 });
         ahb_pre = 0;
         apb1_pre = 0;
         apb2_pre = 0;
@@ -46,7 +44,7 @@ configs = (
     )
     ∷ (
       0 ∷ 0 ∷ 0 ∷ 0 ∷ 0 ∷ 0 ∷ 0 ∷ 1 ∷ 0 ∷ 0 ∷ 0 ∷ 0 ∷ 0 ∷ 0 ∷ [],
-      gives (record { hse = hse.Absent; sys = 0; pll_src = source.Hse; pll = pll.Absent; ahb_pre = 0; apb1_pre = 0; apb2_pre = 0 }),
+      gives (record { hse = None; sys = 0; pll_src = source.Hse; pll = None; ahb_pre = 0; apb1_pre = 0; apb2_pre = 0 }),
     )
     ∷ (0 ∷ 0 ∷ 0 ∷ 0 ∷ 0 ∷ 1 ∷ 0 ∷ 1 ∷ 0 ∷ 0 ∷ 0 ∷ 0 ∷ 0 ∷ 0 ∷ [], refuses 28)
     ∷ []

@@ -1,17 +1,18 @@
 // CH32V1 and CH32L1 for C: the check, the decoder, and the fields that starting a configuration leaves.
-#![tactic(auto)]
+#![tactic(auto, unfolding(crate::specs::Calls::check_read, crate::specs::Calls::decode_read, crate::specs::Calls::init_read))]
 
-ghost use Rattle.std.specs.Prelude.{◌≡◌, true, length};
-ghost use Rattle.pll32.specs.Pll.{checked_says};
-ghost use Rattle.tree.specs.Tree.{buses_says};
-ghost use Rattle.v1.specs.V1.{written_says};
+ghost use Rattle.std.specs.Prelude.{◌≡◌, leb};
+ghost use Rattle.answer.specs.Said.{says};
 ghost use Rattle.capi_give.specs.Given.{Given, six_words, seven_words};
-ghost use Rattle.capi_pll32.specs.Bytes.{seven_of};
-ghost use Rattle.capi_v1.specs.Calls.{chip_of, config_pll, config_of, is_config, fields_in, is_fields, bytes_of, field_bytes, check_read, decode_read, init_read};
+ghost use Rattle.capi_pll32.specs.Bytes.{record_in, seven_of};
+ghost use Rattle.capi_v1.specs.Calls.{chip_of, config_pll, config_of, config_allowed, is_config, fields_in, fields_allowed, is_fields, bytes_of, field_bytes, check_read, decode_read, init_read};
 
-use pll32::Checked;
-use tree::Buses;
-use v1::{Chip, Config, Fields, Pll, PllPreDiv, Written};
+use answer::Refusal;
+use pll32::ClockRecord;
+use tree::Clocks;
+use v1::{Chip, Config, Fields, Pll, PllPreDiv};
+
+// The parts are numbers: C hosts hand them in.
 
 // The part CH32V1.
 pub const V1_PART_V1: u8 = 0;
@@ -22,37 +23,30 @@ pub const V1_CONFIG_SIZE: usize = 14;
 // Bytes of register fields of CH32V1 or CH32L1.
 pub const V1_FIELDS_SIZE: usize = 8;
 
-fn chip(part: u8) -> Chip
-    ensures { result ≡ chip_of part }
+fn chip(part: u8) -> Result<Chip, Refusal>
+    ensures { says result ≡ record_in (leb part 1) (chip_of part) }
 {
-    if part == V1_PART_V1 {
-        Chip::V1
-    } else {
-        Chip::L1
+    match part {
+        V1_PART_V1 => Ok(Chip::V1),
+        V1_PART_L1 => Ok(Chip::L1),
+        _ => Err(Refusal::CodeNotAllowed),
     }
 }
 
-fn pll(present: bool, halved: bool, mul: u8) -> Pll
+// A record has a flag with the value beside it, and this makes the option of them.
+fn pll(present: bool, halved: bool, mul: u8) -> Option<Pll>
     ensures { result ≡ config_pll present halved mul }
 {
-    if !present {
-        return Pll::Absent;
-    }
-    if halved {
-        Pll::Present {
-            prediv: PllPreDiv::Div2,
-            mul,
-        }
+    let prediv = if halved {
+        PllPreDiv::Div2
     } else {
-        Pll::Present {
-            prediv: PllPreDiv::Div1,
-            mul,
-        }
-    }
+        PllPreDiv::Div1
+    };
+    present.then_some(Pll { prediv, mul })
 }
 
-fn config_of(b: &[u8]) -> Config
-    requires { length b.now ≡ 14 }
+#[tactic(auto, unfolding(crate::specs::Calls::config_of))]
+fn config_of(b: &[u8; V1_CONFIG_SIZE]) -> Config
     ensures { result ≡ config_of b.now }
 {
     Config {
@@ -66,19 +60,29 @@ fn config_of(b: &[u8]) -> Config
     }
 }
 
-fn is_config(b: &[u8]) -> bool
-    ensures { (result ≡ is_config b.now) × (result ≡ true → length b.now ≡ 14) }
+#[tactic(auto, unfolding(crate::specs::Calls::config_allowed))]
+fn is_config(b: &[u8; V1_CONFIG_SIZE]) -> bool
+    ensures { result ≡ config_allowed b.now }
 {
-    if b.len() != V1_CONFIG_SIZE {
-        return false;
-    }
     capi_pll32::hse_allowed(b[0], b[1], capi_pll32::hse_hz(b))
-        & (b[7] <= 1)
-        & ((b[8] <= 1) & (b[9] <= 1) & ((b[8] == 1) | (b[9] == 0) & (b[10] == 0)))
+        && b[7] <= 1
+        && (b[8] <= 1 && b[9] <= 1 && (b[8] == 1 || b[9] == 0 && b[10] == 0))
 }
 
-fn fields_in(b: &[u8]) -> Fields
-    requires { length b.now ≡ 8 }
+// A configuration's record, or 28.
+// Not one generic function with `read_fields`: the types are v1's, so a trait for both would need a wrapper for each, which is no plainer.
+fn read_config(bytes: &[u8]) -> Result<Config, Refusal>
+    ensures { says result ≡ record_in (is_config bytes.now) (config_of bytes.now) }
+{
+    let b = capi_pll32::record(bytes)?;
+    if is_config(&b) {
+        Ok(config_of(&b))
+    } else {
+        Err(Refusal::CodeNotAllowed)
+    }
+}
+
+fn fields_in(b: &[u8; V1_FIELDS_SIZE]) -> Fields
     ensures { result ≡ fields_in b.now }
 {
     Fields {
@@ -93,22 +97,29 @@ fn fields_in(b: &[u8]) -> Fields
     }
 }
 
-fn is_fields(b: &[u8]) -> bool
-    ensures { (result ≡ is_fields b.now) × (result ≡ true → length b.now ≡ 8) }
+fn is_fields(b: &[u8; V1_FIELDS_SIZE]) -> bool
+    ensures { result ≡ fields_allowed b.now }
 {
-    if b.len() != V1_FIELDS_SIZE {
-        return false;
-    }
-    (b[1] <= 1) & (b[2] <= 1) & (b[7] <= 1)
+    b[1] <= 1 && b[2] <= 1 && b[7] <= 1
 }
 
-fn check(part: u8, config: &[u8]) -> Checked
-    ensures { checked_says result ≡ check_read part config.now }
+// The fields' record, or 28.
+fn read_fields(bytes: &[u8]) -> Result<Fields, Refusal>
+    ensures { says result ≡ record_in (is_fields bytes.now) (fields_in bytes.now) }
 {
-    if !is_config(config) | (V1_PART_L1 < part) {
-        return Checked::Refused(answer::CODE_NOT_ALLOWED);
+    let b = capi_pll32::record(bytes)?;
+    if is_fields(&b) {
+        Ok(fields_in(&b))
+    } else {
+        Err(Refusal::CodeNotAllowed)
     }
-    v1::check(chip(part), config_of(config))
+}
+
+fn check(part: u8, config: &[u8]) -> Result<ClockRecord, Refusal>
+    ensures { says result ≡ check_read part config.now }
+{
+    let config = read_config(config)?;
+    v1::check(chip(part)?, config)
 }
 
 // Checks a configuration of 14 bytes. Gives seven words: the six clocks, and twice the USB divisor, 0 where there is none.
@@ -120,13 +131,11 @@ pub extern "C" fn wontabeli_v1_check(part: u8, config: &[u8], out: &mut [u32]) -
     capi_give::give_seven(capi_pll32::seven(check(part, config)), out)
 }
 
-fn decode(part: u8, fields: &[u8], hse: u32) -> Buses
-    ensures { buses_says result ≡ decode_read part fields.now hse }
+fn decode(part: u8, fields: &[u8], hse: u32) -> Result<Clocks, Refusal>
+    ensures { says result ≡ decode_read part fields.now hse }
 {
-    if !is_fields(fields) | (V1_PART_L1 < part) {
-        return Buses::Refused(answer::CODE_NOT_ALLOWED);
-    }
-    v1::decode(chip(part), fields_in(fields), capi_give::decoder_hse(hse))
+    let fields = read_fields(fields)?;
+    v1::decode(chip(part)?, fields, capi_give::decoder_hse(hse))
 }
 
 // Decodes fields of 8 bytes, with HSE's frequency; 0 says that there is none. Gives six words: the six clocks.
@@ -138,43 +147,27 @@ pub extern "C" fn wontabeli_v1_decode(part: u8, fields: &[u8], hse: u32, out: &m
     capi_give::give_six(decode(part, fields, hse), out)
 }
 
-fn init_fields(part: u8, config: &[u8], earlier: &[u8]) -> Written
-    ensures { written_says result ≡ init_read part config.now earlier.now }
+fn init_fields(part: u8, config: &[u8], earlier: &[u8]) -> Result<Fields, Refusal>
+    ensures { says result ≡ init_read part config.now earlier.now }
 {
-    if !is_config(config) | !is_fields(earlier) | (V1_PART_L1 < part) {
-        return Written::Refused(answer::CODE_NOT_ALLOWED);
-    }
-    v1::init_fields(chip(part), config_of(config), fields_in(earlier))
+    let config = read_config(config)?;
+    let earlier = read_fields(earlier)?;
+    v1::init_fields(chip(part)?, config, earlier)
 }
 
-fn bytes(f: Fields) -> [u8; 8]
+fn bytes(f: Fields) -> [u8; V1_FIELDS_SIZE]
     ensures { result ≡ bytes_of f }
 {
     [
         f.sws,
-        f.pllsrc as u8,
-        f.pllxtpre as u8,
+        u8::from(f.pllsrc),
+        u8::from(f.pllxtpre),
         f.pllmul,
         f.hpre,
         f.ppre1,
         f.ppre2,
-        f.hsipre as u8,
+        u8::from(f.hsipre),
     ]
-}
-
-fn give_fields(fields: Written, out: &mut [u8]) -> u8
-    ensures { Given 8 (field_bytes (written_says fields)) out.old out.new result }
-{
-    if out.len() < V1_FIELDS_SIZE {
-        return answer::OUTPUT_TOO_SHORT;
-    }
-    match fields {
-        Written::Refused(n) => n,
-        Written::Is(f) => {
-            let xs = bytes(f);
-            capi_give::give_bytes(&xs, out)
-        }
-    }
 }
 
 // The fields that starting a configuration of 14 bytes leaves, over earlier ones of 8 bytes. Gives 8 bytes.
@@ -188,5 +181,5 @@ pub extern "C" fn wontabeli_v1_init_fields(
 ) -> u8
     ensures { Given 8 (field_bytes (init_read part config.now earlier.now)) out.old out.new result }
 {
-    give_fields(init_fields(part, config, earlier), out)
+    capi_give::give_record(init_fields(part, config, earlier).map(bytes), out)
 }

@@ -1,6 +1,6 @@
 -- The calls of CH32V30x on bytes.
 -- Assumes nothing.
-use Rattle.std.specs.Prelude.{ℕ, Bool, cond, not, ◌&&◌, ◌||◌, List, [], ◌∷◌, eqb, leb, length}
+use Rattle.std.specs.Prelude.{ℕ, Bool, cond, not, ◌&&◌, ◌||◌, Option, None, Some, List, [], ◌∷◌, eqb, leb, length}
 use Rattle.answer.specs.Answer.{Answer, gives, refuse, ◌>>=◌, ◌>>◌}
 use Rattle.layout.specs.Bits.{bit}
 use Rattle.tree.specs.declared.Clocks.{Clocks}
@@ -9,11 +9,6 @@ use Rattle.pll32.specs.Pll.{source_of}
 use Rattle.v30x.specs.declared.PllSource.{PllSource}
 use Rattle.v30x.specs.declared.PllSource.TheVariants as source
 use Rattle.v30x.specs.declared.Pll.{Pll}
-use Rattle.v30x.specs.declared.Pll.TheVariants as pll
-use Rattle.v30x.specs.declared.Pllx.{Pllx}
-use Rattle.v30x.specs.declared.Pllx.TheVariants as pllx
-use Rattle.v30x.specs.declared.HsPll.{HsPll}
-use Rattle.v30x.specs.declared.HsPll.TheVariants as hspll
 use Rattle.v30x.specs.declared.Config.{Config}
 use Rattle.v30x.specs.declared.Fields.{Fields}
 use Rattle.v30x.specs.V30x.{check_of, decode_of, fields_of}
@@ -24,14 +19,11 @@ use Rattle.capi_pll32.specs.Bytes.{at, yes, yes_or_no, hse_hz_in, config_hse, hs
 abbrev pub config_pll_source : ℕ → PllSource
 config_pll_source b = cond (eqb b 0) source.Hsi (cond (eqb b 1) source.Hse source.Pll2)
 
-abbrev pub config_pll : Bool → ℕ → ℕ → Pll
-config_pll present pre mul = cond present (pll.Present pre mul) pll.Absent
+abbrev pub config_pll : Bool → ℕ → ℕ → Option Pll
+config_pll present pre mul = cond present (Some (record { prediv = pre; mul = mul })) None
 
-abbrev pub config_pllx : Bool → Pllx
-config_pllx present = cond present pllx.Present pllx.Absent
-
-abbrev pub config_hs_pll : Bool → ℕ → HsPll
-config_hs_pll present pre = cond present (hspll.Present pre) hspll.Absent
+abbrev pub config_hs_pll : Bool → ℕ → Option ℕ
+config_hs_pll present pre = cond present (Some pre) None
 
 -- A configuration of 18 bytes: 0 HSE present, 1 bypass, 2 to 5 its frequency, 6 the system clock, 7 the PLL's source, 8 PLL present,
 -- 9 its predivider's code, 10 its multiplier's, 11 PLL2 or PLL3 asked for, 12 AHB, 13 APB1, 14 APB2, 15 USBHS from HSE, 16 USBHS present,
@@ -42,7 +34,7 @@ config_of l = record {
   sys = at l 6;
   pll_src = config_pll_source (at l 7);
   pll = config_pll (yes (at l 8)) (at l 9) (at l 10);
-  pllx = config_pllx (yes (at l 11));
+  pllx = yes (at l 11);
   ahb_pre = at l 12;
   apb1_pre = at l 13;
   apb2_pre = at l 14;

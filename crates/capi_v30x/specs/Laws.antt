@@ -1,6 +1,6 @@
 -- Laws of the records of CH32V30x: a configuration has one, and the bytes that fields are given as are read as these fields.
 -- Assumes nothing.
-use Rattle.std.specs.Prelude.{ℕ, ◌<◌, ◌≡◌, refl, Bool, true, false, cond, ◌&&◌, ◌||◌, List, [], ◌∷◌, ◌++◌, eqb, leb}
+use Rattle.std.specs.Prelude.{ℕ, ◌<◌, ◌≡◌, refl, Bool, true, false, cond, ◌&&◌, ◌||◌, Option, None, Some, List, [], ◌∷◌, ◌++◌, eqb, leb}
 use Rattle.std.proofs.Common.{sym, arith, leb-true, eqb-true}
 use Rattle.std.proofs.lemmas.Bool.{eqb-false}
 use Rattle.answer.specs.Answer.{gives}
@@ -10,17 +10,11 @@ use Rattle.answer.specs.Tools.{and_left, and_right}
 use Rattle.v30x.specs.declared.PllSource.{PllSource}
 use Rattle.v30x.specs.declared.PllSource.TheVariants as source
 use Rattle.v30x.specs.declared.Pll.{Pll}
-use Rattle.v30x.specs.declared.Pll.TheVariants as pll
-use Rattle.v30x.specs.declared.Pllx.{Pllx}
-use Rattle.v30x.specs.declared.Pllx.TheVariants as pllx
-use Rattle.v30x.specs.declared.HsPll.{HsPll}
-use Rattle.v30x.specs.declared.HsPll.TheVariants as hspll
 use Rattle.v30x.specs.declared.Config.{Config}
 use Rattle.v30x.specs.declared.Fields.{Fields}
-use Rattle.v30x.specs.V30x.{pllx_present}
 use Rattle.capi_pll32.specs.Bytes.{at, yes, yes_or_no, record_in, hse_hz_in, hse_allowed}
 use Rattle.capi_pll32.specs.Records.{listed, same, said, said_as, three_said, of_one, bit_says, or_else, source_byte, source_back, source_says, source_read, hse_there, hse_bypass, hse_hz, hse_bytes, hse_back, hse_says, hse_read, hse_hz_read}
-use Rattle.capi_v30x.specs.Calls.{config_pll, config_pllx, config_hs_pll, config_of, pll_allowed, usbhs_allowed, config_allowed, is_config, fields_in, fields_allowed, is_fields, bytes_of}
+use Rattle.capi_v30x.specs.Calls.{config_pll, config_hs_pll, config_of, pll_allowed, usbhs_allowed, config_allowed, is_config, fields_in, fields_allowed, is_fields, bytes_of}
 
 abbrev pub pll_source_byte : PllSource → ℕ
 pll_source_byte source.Hsi = 0
@@ -28,31 +22,31 @@ pll_source_byte source.Hse = 1
 pll_source_byte source.Pll2 = 2
 
 -- a PLL's three bytes: whether it is there, its predivider's code, its multiplier's
-abbrev pub pll_there : Pll → Bool
-pll_there pll.Absent = false
-pll_there (pll.Present prediv mul) = true
+abbrev pub pll_there : Option Pll → Bool
+pll_there None = false
+pll_there (Some pll) = true
 
-abbrev pub pll_less : Pll → ℕ
-pll_less pll.Absent = 0
-pll_less (pll.Present prediv mul) = prediv
+abbrev pub pll_less : Option Pll → ℕ
+pll_less None = 0
+pll_less (Some pll) = pll.prediv
 
-abbrev pub pll_mul : Pll → ℕ
-pll_mul pll.Absent = 0
-pll_mul (pll.Present prediv mul) = mul
+abbrev pub pll_mul : Option Pll → ℕ
+pll_mul None = 0
+pll_mul (Some pll) = pll.mul
 
-unfoldable pub pll_bytes : Pll → List ℕ
+unfoldable pub pll_bytes : Option Pll → List ℕ
 pll_bytes p = bit (pll_there p) ∷ pll_less p ∷ pll_mul p ∷ []
 
 -- the USBHS PLL's two: whether it is there, its prescaler's code
-abbrev pub hs_pll_there : HsPll → Bool
-hs_pll_there hspll.Absent = false
-hs_pll_there (hspll.Present pre) = true
+abbrev pub hs_pll_there : Option ℕ → Bool
+hs_pll_there None = false
+hs_pll_there (Some pre) = true
 
-abbrev pub hs_pll_less : HsPll → ℕ
-hs_pll_less hspll.Absent = 0
-hs_pll_less (hspll.Present pre) = pre
+abbrev pub hs_pll_less : Option ℕ → ℕ
+hs_pll_less None = 0
+hs_pll_less (Some pre) = pre
 
-unfoldable pub hs_pll_bytes : HsPll → List ℕ
+unfoldable pub hs_pll_bytes : Option ℕ → List ℕ
 hs_pll_bytes p = bit (hs_pll_there p) ∷ hs_pll_less p ∷ []
 
 -- the record of a configuration
@@ -60,7 +54,7 @@ unfoldable pub config_bytes : Config → List ℕ
 config_bytes c =
     hse_bytes c.hse
     ++ (c.sys ∷ pll_source_byte c.pll_src
-    ∷ (pll_bytes c.pll ++ (bit (pllx_present c.pllx) ∷ c.ahb_pre ∷ c.apb1_pre ∷ c.apb2_pre ∷ source_byte c.hspll_src ∷ hs_pll_bytes c.hspll)))
+    ∷ (pll_bytes c.pll ++ (bit c.pllx ∷ c.ahb_pre ∷ c.apb1_pre ∷ c.apb2_pre ∷ source_byte c.hspll_src ∷ hs_pll_bytes c.hspll)))
 
 source_as : (x : ℕ) (t u : Bool) → eqb x 0 ≡ t → eqb x 1 ≡ u → leb x 2 ≡ true → pll_source_byte (cond t source.Hsi (cond u source.Hse source.Pll2)) ≡ x
 source_as x true u e q h = sym (eqb-true x 0 e)
@@ -79,13 +73,6 @@ pll_as p pre mul false e h q =
     let none : (eqb pre 0 && eqb mul 0) ≡ true = or_else (yes p) _ e q in
     same (said_as p false e h)
     (same (sym (eqb-true pre 0 (and_left _ (eqb mul 0) none))) (same (sym (eqb-true mul 0 (and_right (eqb pre 0) _ none))) refl))
-
-pllx_there : (t : Bool) → pllx_present (config_pllx t) ≡ t
-pllx_there true = refl
-pllx_there false = refl
-
-pllx_as : (x : ℕ) → yes_or_no x ≡ true → bit (pllx_present (config_pllx (yes x))) ≡ x
-pllx_as x h = rw (pllx_there (yes x)) (said x h)
 
 hspll_as : (p pre : ℕ) (t : Bool) → yes p ≡ t → yes_or_no p ≡ true → (yes p || eqb pre 0) ≡ true → hs_pll_bytes (config_hs_pll t pre) ≡ p ∷ pre ∷ []
 unfolding hs_pll_bytes
@@ -107,7 +94,7 @@ back l small h =
       source_as (at l 7) (eqb (at l 7) 0) (eqb (at l 7) 1) refl refl (and_left _ (yes_or_no (at l 8)) source-pll),
       pll_as (at l 8) (at l 9) (at l 10) (yes (at l 8)) refl (and_right (leb (at l 7) 2) _ source-pll)
           (and_right (leb (at l 7) 2 && yes_or_no (at l 8)) _ pll-all),
-      pllx_as (at l 11) (and_right (leb (at l 7) 2 && yes_or_no (at l 8) && (yes (at l 8) || eqb (at l 9) 0 && eqb (at l 10) 0)) _ pll-x),
+      said (at l 11) (and_right (leb (at l 7) 2 && yes_or_no (at l 8) && (yes (at l 8) || eqb (at l 9) 0 && eqb (at l 10) 0)) _ pll-x),
       source_back (at l 15) (and_left _ (yes_or_no (at l 16)) hs-source),
       hspll_as (at l 16) (at l 17) (yes (at l 16)) refl (and_right (yes_or_no (at l 15)) _ hs-source)
           (and_right (yes_or_no (at l 15) && yes_or_no (at l 16)) _ usbhs),
@@ -128,25 +115,21 @@ pll_source_read source.Hsi = refl
 pll_source_read source.Hse = refl
 pll_source_read source.Pll2 = refl
 
-pll_says : (p : Pll) → (yes (bit (pll_there p)) || eqb (pll_less p) 0 && eqb (pll_mul p) 0) ≡ true
-pll_says pll.Absent = refl
-pll_says (pll.Present prediv mul) = refl
+pll_says : (p : Option Pll) → (yes (bit (pll_there p)) || eqb (pll_less p) 0 && eqb (pll_mul p) 0) ≡ true
+pll_says None = refl
+pll_says (Some pll) = refl
 
-pll_read : (p : Pll) → config_pll (yes (bit (pll_there p))) (pll_less p) (pll_mul p) ≡ p
-pll_read pll.Absent = refl
-pll_read (pll.Present prediv mul) = refl
+pll_read : (p : Option Pll) → config_pll (yes (bit (pll_there p))) (pll_less p) (pll_mul p) ≡ p
+pll_read None = refl
+pll_read (Some pll) = refl
 
-pllx_read : (p : Pllx) → config_pllx (yes (bit (pllx_present p))) ≡ p
-pllx_read pllx.Absent = refl
-pllx_read pllx.Present = refl
+hspll_says : (p : Option ℕ) → (yes (bit (hs_pll_there p)) || eqb (hs_pll_less p) 0) ≡ true
+hspll_says None = refl
+hspll_says (Some pre) = refl
 
-hspll_says : (p : HsPll) → (yes (bit (hs_pll_there p)) || eqb (hs_pll_less p) 0) ≡ true
-hspll_says hspll.Absent = refl
-hspll_says (hspll.Present pre) = refl
-
-hspll_read : (p : HsPll) → config_hs_pll (yes (bit (hs_pll_there p))) (hs_pll_less p) ≡ p
-hspll_read hspll.Absent = refl
-hspll_read (hspll.Present pre) = refl
+hspll_read : (p : Option ℕ) → config_hs_pll (yes (bit (hs_pll_there p))) (hs_pll_less p) ≡ p
+hspll_read None = refl
+hspll_read (Some pre) = refl
 
 -- and every configuration has it: its bytes are read as the configuration
 pub config_read_back : (c : Config) → hse_hz c.hse < 4294967296 → record_in (is_config (config_bytes c)) (config_of (config_bytes c)) ≡ gives c
@@ -158,14 +141,14 @@ config_read_back c fits =
       pll_source_says c.pll_src,
       bit_says (pll_there c.pll),
       pll_says c.pll,
-      bit_says (pllx_present c.pllx),
+      bit_says c.pllx,
       source_says c.hspll_src,
       bit_says (hs_pll_there c.hspll),
       hspll_says c.hspll,
       hse_read c.hse,
       pll_source_read c.pll_src,
       pll_read c.pll,
-      pllx_read c.pllx,
+      flag_of_bit c.pllx,
       source_read c.hspll_src,
       hspll_read c.hspll,
     )

@@ -1,15 +1,11 @@
 -- Worked records of CH32V30x: bytes, and what is read of them. Each byte that says yes or no is once 1 and once 0.
 -- Assumes nothing.
-use Rattle.std.specs.Prelude.{refl, true, false, List, [], ◌∷◌, ℕ}
+use Rattle.std.specs.Prelude.{refl, true, false, None, Some, List, [], ◌∷◌, ℕ}
 use Rattle.answer.specs.Answer.{Answer, gives, refuses}
 use Rattle.layout.specs.Bits.{bits_at}
-use Rattle.pll32.specs.declared.Hse.TheVariants as hse
 use Rattle.pll32.specs.declared.Source.TheVariants as from
 use Rattle.pll32.specs.Answers.{Worked}
 use Rattle.v30x.specs.declared.PllSource.TheVariants as source
-use Rattle.v30x.specs.declared.Pll.TheVariants as pll
-use Rattle.v30x.specs.declared.Pllx.TheVariants as pllx
-use Rattle.v30x.specs.declared.HsPll.TheVariants as hspll
 use Rattle.v30x.specs.declared.Config.{Config}
 use Rattle.v30x.specs.declared.Fields.{Fields}
 use Rattle.capi_pll32.specs.Bytes.{record_in}
@@ -20,31 +16,31 @@ pub configs : List (List ℕ × Answer Config)
 configs = (
   1 ∷ 0 ∷ 1 ∷ 125 ∷ 120 ∷ 64 ∷ 2 ∷ 1 ∷ 1 ∷ 4 ∷ 10 ∷ 0 ∷ 8 ∷ 4 ∷ 5 ∷ 1 ∷ 1 ∷ 6 ∷ [],
   gives (record {
-    hse = hse.Present false 25000000;
+    hse = Some (record { bypass = false; freq = 25000000 });
     sys = 2;
     pll_src = source.Hse;
-    pll = pll.Present 4 10;
-    pllx = pllx.Absent;
+    pll = Some (record { prediv = 4; mul = 10 });
+    pllx = false;
     ahb_pre = 8;
     apb1_pre = 4;
     apb2_pre = 5;
     hspll_src = from.Hse;
-    hspll = hspll.Present 6;
+    hspll = Some 6;
   }),
 )
     ∷ (
       1 ∷ 1 ∷ 0 ∷ 0 ∷ 0 ∷ 1 ∷ 1 ∷ 2 ∷ 0 ∷ 0 ∷ 0 ∷ 1 ∷ 0 ∷ 0 ∷ 0 ∷ 0 ∷ 0 ∷ 0 ∷ [],
       gives (record {
-        hse = hse.Present true 1;
+        hse = Some (record { bypass = true; freq = 1 });
         sys = 1;
         pll_src = source.Pll2;
-        pll = pll.Absent;
-        pllx = pllx.Present;
+        pll = None;
+        pllx = true;
         ahb_pre = 0;
         apb1_pre = 0;
         apb2_pre = 0;
         hspll_src = from.Hsi;
-        hspll = hspll.Absent;
+        hspll = None;
       }),
     )
     ∷ (1 ∷ 1 ∷ 0 ∷ 0 ∷ 0 ∷ 1 ∷ 1 ∷ 2 ∷ 0 ∷ 0 ∷ 0 ∷ 2 ∷ 0 ∷ 0 ∷ 0 ∷ 0 ∷ 0 ∷ 0 ∷ [], refuses 28)

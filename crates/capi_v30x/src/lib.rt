@@ -1,17 +1,16 @@
 // CH32V30x for C: the check, the decoder, and the fields that starting a configuration leaves.
-#![tactic(auto)]
+#![tactic(auto, unfolding(crate::specs::Calls::check_read, crate::specs::Calls::decode_read, crate::specs::Calls::init_read))]
 
-ghost use Rattle.std.specs.Prelude.{◌≡◌, true, length};
-ghost use Rattle.pll32.specs.Pll.{checked_says};
-ghost use Rattle.tree.specs.Tree.{buses_says};
-ghost use Rattle.v30x.specs.V30x.{written_says};
+ghost use Rattle.std.specs.Prelude.{◌≡◌};
+ghost use Rattle.answer.specs.Said.{says};
 ghost use Rattle.capi_give.specs.Given.{Given, six_words, seven_words};
-ghost use Rattle.capi_pll32.specs.Bytes.{seven_of};
-ghost use Rattle.capi_v30x.specs.Calls.{config_pll_source, config_pll, config_pllx, config_hs_pll, config_of, pll_allowed, usbhs_allowed, is_config, fields_in, is_fields, bytes_of, field_bytes, check_read, decode_read, init_read};
+ghost use Rattle.capi_pll32.specs.Bytes.{record_in, seven_of};
+ghost use Rattle.capi_v30x.specs.Calls.{config_pll_source, config_pll, config_hs_pll, config_of, pll_allowed, usbhs_allowed, config_allowed, is_config, fields_in, fields_allowed, is_fields, bytes_of, field_bytes, check_read, decode_read, init_read};
 
-use pll32::Checked;
-use tree::Buses;
-use v30x::{Config, Fields, HsPll, Pll, PllSource, Pllx, Written};
+use answer::Refusal;
+use pll32::ClockRecord;
+use tree::Clocks;
+use v30x::{Config, Fields, Pll, PllSource};
 
 // Bytes of a configuration of CH32V30x.
 pub const V30X_CONFIG_SIZE: usize = 18;
@@ -21,44 +20,28 @@ pub const V30X_FIELDS_SIZE: usize = 9;
 fn pll_source(b: u8) -> PllSource
     ensures { result ≡ config_pll_source b }
 {
-    if b == 0 {
-        return PllSource::Hsi;
-    }
-    if b == 1 {
-        PllSource::Hse
-    } else {
-        PllSource::Pll2
+    match b {
+        0 => PllSource::Hsi,
+        1 => PllSource::Hse,
+        _ => PllSource::Pll2,
     }
 }
 
-fn pll(present: bool, prediv: u8, mul: u8) -> Pll
+// A record has a flag with the value beside it, and these make the option of them.
+fn pll(present: bool, prediv: u8, mul: u8) -> Option<Pll>
     ensures { result ≡ config_pll present prediv mul }
 {
-    if present {
-        Pll::Present { prediv, mul }
-    } else {
-        Pll::Absent
-    }
+    present.then_some(Pll { prediv, mul })
 }
 
-fn pllx(present: bool) -> Pllx
-    ensures { result ≡ config_pllx present }
-{
-    if present { Pllx::Present } else { Pllx::Absent }
-}
-
-fn hspll(present: bool, pre: u8) -> HsPll
+fn hspll(present: bool, pre: u8) -> Option<u8>
     ensures { result ≡ config_hs_pll present pre }
 {
-    if present {
-        HsPll::Present { pre }
-    } else {
-        HsPll::Absent
-    }
+    present.then_some(pre)
 }
 
-fn config_of(b: &[u8]) -> Config
-    requires { length b.now ≡ 18 }
+#[tactic(auto, unfolding(crate::specs::Calls::config_of))]
+fn config_of(b: &[u8; V30X_CONFIG_SIZE]) -> Config
     ensures { result ≡ config_of b.now }
 {
     Config {
@@ -66,7 +49,7 @@ fn config_of(b: &[u8]) -> Config
         sys: b[6],
         pll_src: pll_source(b[7]),
         pll: pll(b[8] == 1, b[9], b[10]),
-        pllx: pllx(b[11] == 1),
+        pllx: b[11] == 1,
         ahb_pre: b[12],
         apb1_pre: b[13],
         apb2_pre: b[14],
@@ -75,31 +58,39 @@ fn config_of(b: &[u8]) -> Config
     }
 }
 
-fn pll_allowed(b: &[u8]) -> bool
-    requires { length b.now ≡ 18 }
+fn pll_allowed(b: &[u8; V30X_CONFIG_SIZE]) -> bool
     ensures { result ≡ pll_allowed b.now }
 {
-    (b[7] <= 2) & (b[8] <= 1) & ((b[8] == 1) | (b[9] == 0) & (b[10] == 0)) & (b[11] <= 1)
+    b[7] <= 2 && b[8] <= 1 && (b[8] == 1 || b[9] == 0 && b[10] == 0) && b[11] <= 1
 }
 
-fn usbhs_allowed(b: &[u8]) -> bool
-    requires { length b.now ≡ 18 }
+fn usbhs_allowed(b: &[u8; V30X_CONFIG_SIZE]) -> bool
     ensures { result ≡ usbhs_allowed b.now }
 {
-    (b[15] <= 1) & (b[16] <= 1) & ((b[16] == 1) | (b[17] == 0))
+    b[15] <= 1 && b[16] <= 1 && (b[16] == 1 || b[17] == 0)
 }
 
-fn is_config(b: &[u8]) -> bool
-    ensures { (result ≡ is_config b.now) × (result ≡ true → length b.now ≡ 18) }
+#[tactic(auto, unfolding(crate::specs::Calls::config_allowed))]
+fn is_config(b: &[u8; V30X_CONFIG_SIZE]) -> bool
+    ensures { result ≡ config_allowed b.now }
 {
-    if b.len() != V30X_CONFIG_SIZE {
-        return false;
-    }
-    capi_pll32::hse_allowed(b[0], b[1], capi_pll32::hse_hz(b)) & pll_allowed(b) & usbhs_allowed(b)
+    capi_pll32::hse_allowed(b[0], b[1], capi_pll32::hse_hz(b)) && pll_allowed(b) && usbhs_allowed(b)
 }
 
-fn fields_in(b: &[u8]) -> Fields
-    requires { length b.now ≡ 9 }
+// A configuration's record, or 28.
+// Not one generic function with `read_fields`: the types are v30x's, so a trait for both would need a wrapper for each, which is no plainer.
+fn read_config(bytes: &[u8]) -> Result<Config, Refusal>
+    ensures { says result ≡ record_in (is_config bytes.now) (config_of bytes.now) }
+{
+    let b = capi_pll32::record(bytes)?;
+    if is_config(&b) {
+        Ok(config_of(&b))
+    } else {
+        Err(Refusal::CodeNotAllowed)
+    }
+}
+
+fn fields_in(b: &[u8; V30X_FIELDS_SIZE]) -> Fields
     ensures { result ≡ fields_in b.now }
 {
     Fields {
@@ -115,22 +106,28 @@ fn fields_in(b: &[u8]) -> Fields
     }
 }
 
-fn is_fields(b: &[u8]) -> bool
-    ensures { (result ≡ is_fields b.now) × (result ≡ true → length b.now ≡ 9) }
+fn is_fields(b: &[u8; V30X_FIELDS_SIZE]) -> bool
+    ensures { result ≡ fields_allowed b.now }
 {
-    if b.len() != V30X_FIELDS_SIZE {
-        return false;
-    }
-    (b[1] <= 1) & (b[3] <= 1) & (b[8] <= 1)
+    b[1] <= 1 && b[3] <= 1 && b[8] <= 1
 }
 
-fn check(config: &[u8]) -> Checked
-    ensures { checked_says result ≡ check_read config.now }
+// The fields' record, or 28.
+fn read_fields(bytes: &[u8]) -> Result<Fields, Refusal>
+    ensures { says result ≡ record_in (is_fields bytes.now) (fields_in bytes.now) }
 {
-    if !is_config(config) {
-        return Checked::Refused(answer::CODE_NOT_ALLOWED);
+    let b = capi_pll32::record(bytes)?;
+    if is_fields(&b) {
+        Ok(fields_in(&b))
+    } else {
+        Err(Refusal::CodeNotAllowed)
     }
-    v30x::check(config_of(config))
+}
+
+fn check(config: &[u8]) -> Result<ClockRecord, Refusal>
+    ensures { says result ≡ check_read config.now }
+{
+    v30x::check(read_config(config)?)
 }
 
 // Checks a configuration of 18 bytes. Gives seven words: the six clocks, and twice the USB divisor, 0 where there is none.
@@ -142,13 +139,10 @@ pub extern "C" fn wontabeli_v30x_check(config: &[u8], out: &mut [u32]) -> u8
     capi_give::give_seven(capi_pll32::seven(check(config)), out)
 }
 
-fn decode(fields: &[u8], hse: u32) -> Buses
-    ensures { buses_says result ≡ decode_read fields.now hse }
+fn decode(fields: &[u8], hse: u32) -> Result<Clocks, Refusal>
+    ensures { says result ≡ decode_read fields.now hse }
 {
-    if !is_fields(fields) {
-        return Buses::Refused(answer::CODE_NOT_ALLOWED);
-    }
-    v30x::decode(fields_in(fields), capi_give::decoder_hse(hse))
+    v30x::decode(read_fields(fields)?, capi_give::decoder_hse(hse))
 }
 
 // Decodes fields of 9 bytes, with HSE's frequency; 0 says that there is none. Gives six words: the six clocks.
@@ -160,44 +154,27 @@ pub extern "C" fn wontabeli_v30x_decode(fields: &[u8], hse: u32, out: &mut [u32]
     capi_give::give_six(decode(fields, hse), out)
 }
 
-fn init_fields(config: &[u8], earlier: &[u8]) -> Written
-    ensures { written_says result ≡ init_read config.now earlier.now }
+fn init_fields(config: &[u8], earlier: &[u8]) -> Result<Fields, Refusal>
+    ensures { says result ≡ init_read config.now earlier.now }
 {
-    if !is_config(config) | !is_fields(earlier) {
-        return Written::Refused(answer::CODE_NOT_ALLOWED);
-    }
-    v30x::init_fields(config_of(config), fields_in(earlier))
+    let config = read_config(config)?;
+    v30x::init_fields(config, read_fields(earlier)?)
 }
 
-fn bytes(f: Fields) -> [u8; 9]
+fn bytes(f: Fields) -> [u8; V30X_FIELDS_SIZE]
     ensures { result ≡ bytes_of f }
 {
     [
         f.sws,
-        f.pllsrc as u8,
+        u8::from(f.pllsrc),
         f.prediv1,
-        f.prediv1src as u8,
+        u8::from(f.prediv1src),
         f.pllmul,
         f.hpre,
         f.ppre1,
         f.ppre2,
-        f.hsipre as u8,
+        u8::from(f.hsipre),
     ]
-}
-
-fn give_fields(fields: Written, out: &mut [u8]) -> u8
-    ensures { Given 9 (field_bytes (written_says fields)) out.old out.new result }
-{
-    if out.len() < V30X_FIELDS_SIZE {
-        return answer::OUTPUT_TOO_SHORT;
-    }
-    match fields {
-        Written::Refused(n) => n,
-        Written::Is(f) => {
-            let xs = bytes(f);
-            capi_give::give_bytes(&xs, out)
-        }
-    }
 }
 
 // The fields that starting a configuration of 18 bytes leaves, over earlier ones of 9 bytes. Gives 9 bytes.
@@ -206,5 +183,5 @@ fn give_fields(fields: Written, out: &mut [u8]) -> u8
 pub extern "C" fn wontabeli_v30x_init_fields(config: &[u8], earlier: &[u8], out: &mut [u8]) -> u8
     ensures { Given 9 (field_bytes (init_read config.now earlier.now)) out.old out.new result }
 {
-    give_fields(init_fields(config, earlier), out)
+    capi_give::give_record(init_fields(config, earlier).map(bytes), out)
 }

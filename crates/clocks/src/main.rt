@@ -1,12 +1,11 @@
 // Reads a profile and up to eight serial ports from standard input, and writes their lines, or the line of the profile's refusal, to standard output.
 #![tactic(auto)]
 
-use text::Put;
-
-// Writes the answer to an input, and answers whether all of it went out. Every text has room.
+// Writes the answer to an input, and answers whether all of it went out. Every text has room. `rows` has the same lines: one function for both would be a
+// public one of which no clause can say what it writes.
 fn answer(rt: &impl Print, input: &[u8]) -> bool {
     let mut out = [0u8; report::TEXT];
-    let Put::At(n) = report::report(input, &mut out) else {
+    let Some(n) = report::report(input, &mut out) else {
         return false;
     };
     rt.write_all(&out[..n]).is_ok()

@@ -3,6 +3,7 @@
 use mathlib.Core.Path.{◌≡◌, refl, ap}
 use mathlib.Core.Bool.{Bool, true, false, cond, not, ◌&&◌, ◌||◌}
 use mathlib.Core.List.{List, [], ◌∷◌, ◌++◌}
+use Rattle.std.specs.Prelude.{Option}
 use Prim.Native.Nat.{ℕ, zero, suc, ◌+◌, ◌/◌, ◌<◌}
 use native.Mathlib.Omega.{arith}
 use borrow.Author.Tests.{lt-leb, le-ltb, ltb-true, not-false}
@@ -16,7 +17,6 @@ use Rattle.divider.specs.declared.Frequency.{Frequency}
 use Rattle.divider.specs.Divide.{ahb_divisor}
 use Rattle.divider.specs.Frequency.{whole, over}
 use Rattle.tree.specs.Order.{no_hse, hse_hz, clocks_at}
-use Rattle.tree.specs.declared.HseFrequency.{HseFrequency}
 use Rattle.image.specs.declared.Fields.{Fields}
 use Rattle.image.specs.Image.{in_widths, in_width}
 use Rattle.v4x7_rules.specs.Rules.{reference_code_of, two_thirds, sys_pll_of, buses_of}
@@ -26,7 +26,7 @@ use Rattle.decoder.specs.Decode.{usb_hs_reference_of, usb_hs_pll_of, sys_pll_inp
 use Rattle.decoder.specs.Queries.{adc_ratio_of, adc_query_of, rng_query_of}
 use Rattle.decoder.specs.Order.{reference_hz, sysclk_hz, decode_tests, query_tests}
 
-reference : (source : ℕ) (h : HseFrequency) → source < 4 →
+reference : (source : ℕ) (h : Option ℕ) → source < 4 →
     OrElse ((3, (eqb source 0 || eqb source 2) && no_hse h) ∷ (4, (eqb source 0 || eqb source 2) && outside 5000000 32000000 (hse_hz h))
     ∷ (6, eqb source 2 && not (eqb (hse_hz h) 25000000)) ∷ (17, eqb source 3) ∷ []) (whole (reference_hz source h)) (usb_hs_reference_of source h)
 unfolding usb_hs_reference_of
@@ -36,7 +36,7 @@ reference (suc (suc zero)) h small = record { is = (else_then (eth_pll_else h) (
 reference (suc (suc (suc zero))) h small = record { is = refl }
 reference (suc (suc (suc (suc n)))) h small = absurd (omega arith)
 
-usbhs_pll : (source right : ℕ) (h : HseFrequency) → source < 4 →
+usbhs_pll : (source right : ℕ) (h : Option ℕ) → source < 4 →
     OrElse ((3, (eqb source 0 || eqb source 2) && no_hse h) ∷ (4, (eqb source 0 || eqb source 2) && outside 5000000 32000000 (hse_hz h))
     ∷ (6, eqb source 2 && not (eqb (hse_hz h) 25000000)) ∷ (17, eqb source 3) ∷ (8, not (allowed (reference_hz source h)))
     ∷ (18, not (eqb (reference_code (reference_hz source h)) right)) ∷ []) tt (usb_hs_pll_of source right h)
@@ -70,7 +70,7 @@ divided : {l : List Test} {x : Frequency} {m : Answer Frequency} (n : ℕ) → O
     OrElse (l ++ []) (over x (n + 1)) (◌>>=◌ m (λ y. gives (over y (n + 1))))
 divided n h = else_bind h (λ y e. else_known (ap (λ (z : Frequency). over z (n + 1)) e))
 
-system : (f : Fields) (h : HseFrequency) → in_width f ≡ true → OrElse (take 16 (drop 1 (decode_tests f h))) (whole (sysclk_hz f h)) (in_use_of f h)
+system : (f : Fields) (h : Option ℕ) → in_width f ≡ true → OrElse (take 16 (drop 1 (decode_tests f h))) (whole (sysclk_hz f h)) (in_use_of f h)
 unfolding in_use_of sys_pll_input_of sys_pll_of two_thirds over in_widths
 system f h wide =
     let at = every_at (in_widths f) wide in
@@ -97,7 +97,7 @@ buses sys hpre ppre1 ppre2 {hz} is h k l =
     rw is (else_skip (else_skip (else_skip (buses_else (whole hz) hpre ppre1 ppre2) (lt-leb 16 hpre h)) (lt-leb 8 ppre1 k)) (lt-leb 8 ppre2 l))
 
 -- the whole decoder: refused by the first of the list, or else the plain numbers
-pub decode_else : (f : Fields) (h : HseFrequency) →
+pub decode_else : (f : Fields) (h : Option ℕ) →
     OrElse (decode_tests f h) (clocks_at V4x7 (whole (sysclk_hz f h)) f.cfgr0.hpre f.cfgr0.ppre1 f.cfgr0.ppre2) (decode_of f h)
 unfolding decode_of in_widths
 decode_else f h =
@@ -106,7 +106,7 @@ decode_else f h =
     else_bind (system f h (not-false (in_width f) e)) (λ sys e.
     buses sys f.cfgr0.hpre f.cfgr0.ppre1 f.cfgr0.ppre2 e (ltb-true _ 16 (at 3)) (ltb-true _ 8 (at 4)) (ltb-true _ 8 (at 5))))
 
-pub decode_in_order : (f : Fields) (h : HseFrequency) → bare (decode_of f h) ≡ first_of (decode_tests f h)
+pub decode_in_order : (f : Fields) (h : Option ℕ) → bare (decode_of f h) ≡ first_of (decode_tests f h)
 decode_in_order f h = (else_order (decode_else f h)).goes
 
 -- a query gives, once 28 is out of the way

@@ -4,10 +4,11 @@
 use mathlib.Core.Path.{◌≡◌, refl}
 use mathlib.Core.Bool.{Bool, true, false}
 use mathlib.Core.List.{List, [], ◌∷◌, map}
+use Rattle.std.specs.Prelude.{Option, None, Some, ℕ}
 use Rattle.answer.specs.Answer.{gives}
 use Rattle.image.specs.declared.Fields.{Fields}
 use Rattle.image.specs.Image.{in_widths}
-use Rattle.decoder.specs.Queries.{Ready, hertz, not_ready, rng_query_of}
+use Rattle.decoder.specs.Queries.{rng_query_of}
 
 -- RNGSRC, I2SPLLSRC, ready bits of the ETH PLL and the USBHS PLL; all else clear
 abbrev fields : Bool × Bool × Bool × Bool → Fields
@@ -21,16 +22,16 @@ fields x = record {
 }
 
 -- with a SYSCLK of 100 MHz
-abbrev rows : List ((Bool × Bool × Bool × Bool) × Ready)
+abbrev rows : List ((Bool × Bool × Bool × Bool) × Option ℕ)
 rows =
-    ((false, true, true, true), hertz 100000000)
-    ∷ ((true, true, true, false), hertz 500000000)
-    ∷ ((true, false, false, true), hertz 480000000)
-    ∷ ((true, true, false, true), not_ready)
-    ∷ ((true, false, true, false), not_ready)
+    ((false, true, true, true), Some 100000000)
+    ∷ ((true, true, true, false), Some 500000000)
+    ∷ ((true, false, false, true), Some 480000000)
+    ∷ ((true, true, false, true), None)
+    ∷ ((true, false, true, false), None)
     ∷ []
 
-pub rng_worked : map (λ (r : (Bool × Bool × Bool × Bool) × Ready). rng_query_of (fields r.0) 100000000) rows ≡
-    map (λ (r : (Bool × Bool × Bool × Bool) × Ready). gives r.1) rows
+pub rng_worked : map (λ (r : (Bool × Bool × Bool × Bool) × Option ℕ). rng_query_of (fields r.0) 100000000) rows ≡
+    map (λ (r : (Bool × Bool × Bool × Bool) × Option ℕ). gives r.1) rows
 unfolding rng_query_of in_widths
 rng_worked = refl

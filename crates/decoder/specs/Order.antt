@@ -1,24 +1,23 @@
 -- The order of the decoder's refusals: document 01, "V4x7 decoder", as a flat list over the fields and HSE alone. The queries refuse by 28 alone.
 -- Assumes nothing.
-use Rattle.std.specs.Prelude.{Bool, cond, not, ◌&&◌, ◌||◌, List, [], ◌∷◌, ℕ, ◌+◌, ◌/◌, ltb, eqb, get_or}
+use Rattle.std.specs.Prelude.{Bool, cond, not, ◌&&◌, ◌||◌, Option, List, [], ◌∷◌, ℕ, ◌+◌, ◌/◌, ltb, eqb, get_or}
 use Rattle.answer.specs.Order.{Test}
 use Rattle.divider.specs.declared.Family.TheVariants.{V4x7}
 use Rattle.divider.specs.Divide.{ahb_divisor}
 use Rattle.image.specs.declared.Fields.{Fields}
 use Rattle.image.specs.Image.{in_width}
-use Rattle.tree.specs.declared.HseFrequency.{HseFrequency}
 use Rattle.tree.specs.Order.{no_hse, hse_hz}
 use Rattle.v4x7_rules.specs.Plain.{outside, main_pll_hz, allowed, reference_code, sys_pll_hz}
 
 -- the USBHS PLL's reference by its source: HSE, else 20 MHz
-abbrev pub reference_hz : ℕ → HseFrequency → ℕ
+abbrev pub reference_hz : ℕ → Option ℕ → ℕ
 reference_hz source h = cond (eqb source 0) (hse_hz h) 20000000
 
-abbrev pub main_hz : Fields → HseFrequency → ℕ
+abbrev pub main_hz : Fields → Option ℕ → ℕ
 main_hz f h = main_pll_hz h f.cfgr0.pllsrc f.cfgr0.pllmul
 
 -- SYSCLK by SWS: HSI, HSE, or SYSPLL divided by 1..8
-abbrev pub sysclk_hz : Fields → HseFrequency → ℕ
+abbrev pub sysclk_hz : Fields → Option ℕ → ℕ
 sysclk_hz f h =
     get_or (20000000 ∷ hse_hz h ∷ sys_pll_hz f.cfgr2.syspllsrc (main_hz f h) / (f.cfgr2.sysplldiv + 1) ∷ [])
     f.seen.sws 0
@@ -40,7 +39,7 @@ abbrev pub usb_hs_from_hse : Fields → Bool
 usb_hs_from_hse f = uses_usb_hs f && (eqb f.cfgr2.usbhspllsrc 0 || eqb f.cfgr2.usbhspllsrc 2)
 
 -- The decoder refuses by the first of these that holds.
-abbrev pub decode_tests : Fields → HseFrequency → List Test
+abbrev pub decode_tests : Fields → Option ℕ → List Test
 decode_tests f h =
     -- a code too wide, before anything else
     (28, not (in_width f))

@@ -14,7 +14,8 @@ use Rattle.v4x7.specs.declared.AdcClockSource.{AdcClockSource}
 use Rattle.v4x7.specs.declared.AdcClockSource.TheVariants as adc
 use Rattle.v4x7.specs.declared.Config.{Config}
 use Rattle.v4x7.specs.declared.ClockRecord.{ClockRecord}
-use Rattle.v4x7.specs.Check.{check_of, named_of, hse_frequency_of, usb_hs_of}
+use Rattle.tree.specs.Tree.{hse_frequency_of}
+use Rattle.v4x7.specs.Check.{check_of, named_of, usb_hs_of}
 use Rattle.v4x7.specs.Laws.{Named, named_given}
 use Rattle.v4x7.specs.Order.{adc_from_usb_hs, adc_first, check_tests}
 use Rattle.v4x7.proofs.Order.{check_in_order}

@@ -1,5 +1,6 @@
 -- An accepted configuration's codes, laid into any fields in width, decode to the clocks that the check promised.
 -- Assumes nothing.
+use Rattle.std.specs.Prelude.{Option, None, Some}
 use mathlib.Core.Path.{◌≡◌, ◌∙◌, refl, sym, ap, subst}
 use mathlib.Core.Bool.{Bool, true, false, not, ◌&&◌, ◌||◌}
 use Prim.Native.Nat.{ℕ, ◌+◌}
@@ -10,30 +11,24 @@ use Rattle.answer.specs.Answer.{gives, refuses, refuse, ◌>>=◌, ◌>>◌, bou
 use Rattle.answer.specs.Tools.{false_true, cases, and_other, neither}
 use Rattle.divider.specs.declared.Frequency.{Frequency}
 use Rattle.divider.specs.Frequency.{whole, over}
-use Rattle.tree.specs.declared.HseFrequency.{HseFrequency}
-use Rattle.tree.specs.declared.Output.{Output}
-use Rattle.tree.specs.declared.Output.TheVariants as output
 use Rattle.image.specs.declared.Fields.{Fields}
 use Rattle.v4x7_rules.specs.Rules.{main_pll_of, eth_pll_of, sys_pll_of, buses_of}
-use Rattle.v4x7.specs.declared.Pll.{Pll}
-use Rattle.v4x7.specs.declared.Pll.TheVariants as pll
-use Rattle.v4x7.specs.declared.HsPll.{HsPll}
-use Rattle.v4x7.specs.declared.HsPll.TheVariants as hspll
 use Rattle.v4x7.specs.declared.Config.{Config}
 use Rattle.v4x7.specs.declared.ClockRecord.{ClockRecord}
-use Rattle.v4x7.specs.Check.{check_of, named_of, named_hs_pll, has_usb_hs, hse_frequency_of, hse_present_of, rng_of, main_of, eth_of, reference_of, usb_hs_of, sources_of}
+use Rattle.tree.specs.Tree.{hse_frequency_of}
+use Rattle.v4x7.specs.Check.{check_of, named_of, named_hs_pll, has_usb_hs, hse_present_of, rng_of, main_of, eth_of, reference_of, usb_hs_of, sources_of}
 use Rattle.v4x7.specs.Check as check
 use Rattle.v4x7.specs.Laws.{Named, named_given}
 use Rattle.decoder.specs.Decode.{usb_hs_reference_of, usb_hs_pll_of, sys_pll_input_of, in_use_of, decode_of}
 use Rattle.demands.specs.Laid.{PllLaid, HsPllLaid, Laid}
 
 -- what SYSPLL takes in is the main PLL's affair at source 6 alone
-ignores : (source : ℕ) (main : Output) → eqb source 6 ≡ false → sys_pll_of source main ≡ sys_pll_of source output.Absent
+ignores : (source : ℕ) (main : Option Frequency) → eqb source 6 ≡ false → sys_pll_of source main ≡ sys_pll_of source None
 unfolding sys_pll_of
 ignores source main e = simp e
 
 -- and no other source gives anything
-no_source : (source : ℕ) (main : Output) {P : Type 0} {x : Frequency} → (eqb source 0 || eqb source 2) ≡ false →
+no_source : (source : ℕ) (main : Option Frequency) {P : Type 0} {x : Frequency} → (eqb source 0 || eqb source 2) ≡ false →
     (eqb source 1 || eqb source 3) ≡ false → eqb source 6 ≡ false → sys_pll_of source main ≡ gives x → P
 unfolding sys_pll_of
 no_source source main {P} {x} even odd six q =
@@ -43,7 +38,7 @@ no_source source main {P} {x} even odd six q =
     refuses_gives (passed 28 (leb 8 source) (refuses 19) left).after
 
 -- the decoder sees the reference that the check saw
-reference : (h : HseFrequency) (eth : Bool) (s : ℕ) {x : Frequency} → eth_of h eth ≡ gives tt → leb s 2 ≡ true →
+reference : (h : Option ℕ) (eth : Bool) (s : ℕ) {x : Frequency} → eth_of h eth ≡ gives tt → leb s 2 ≡ true →
     reference_of h eth s ≡ gives x → usb_hs_reference_of s h ≡ gives x
 unfolding usb_hs_reference_of reference_of eth_of
 reference h eth s {x} runs named q =
@@ -61,36 +56,36 @@ reference h eth s {x} runs named q =
     (λ l. absurd (omega (arith, leb-true s 2 named, eqb-false s 0 e, eqb-false s 1 k, eqb-false s 2 l)))))
 
 -- the decoder finds the USBHS PLL running where it is configured
-usbhs : (c : Config) (f : Fields) (p : HsPll) → eth_of (hse_frequency_of c.hse) c.ethpll ≡ gives tt →
+usbhs : (c : Config) (f : Fields) (p : Option ℕ) → eth_of (hse_frequency_of c.hse) c.ethpll ≡ gives tt →
     usb_hs_of (hse_frequency_of c.hse) c.ethpll p ≡ gives tt → named_hs_pll p ≡ true → HsPllLaid c p f → has_usb_hs p ≡ true →
     usb_hs_pll_of f.cfgr2.usbhspllsrc f.cfgr2.usbhspllclk (hse_frequency_of c.hse) ≡ gives tt
 unfolding usb_hs_pll_of usb_hs_of
-usbhs c f hspll.Absent eth q named laid there = false_true there
-usbhs c f (hspll.From s) eth q named laid there =
+usbhs c f None eth q named laid there = false_true there
+usbhs c f (Some s) eth q named laid there =
     let r = bound (reference_of (hse_frequency_of c.hse) c.ethpll s) _ q in
     let seen = reference (hse_frequency_of c.hse) c.ethpll s eth named r.gave in
     let code = laid.1 r.value r.gave in
     simp (laid.0, seen, code, eq-eqb f.cfgr2.usbhspllclk f.cfgr2.usbhspllclk refl)
 
 -- the main PLL decodes to what the check made of it, where SYSPLL takes it in
-main_pll_lem : (h : HseFrequency) (source : ℕ) (p : Pll) (f : Fields) {main : Output} {x : Frequency} → main_of h source p ≡ gives main →
+main_pll_lem : (h : Option ℕ) (source : ℕ) (p : Option ℕ) (f : Fields) {main : Option Frequency} {x : Frequency} → main_of h source p ≡ gives main →
     PllLaid p source f → sys_pll_of 6 main ≡ gives x →
-    (◌>>=◌ (main_pll_of h f.cfgr0.pllsrc f.cfgr0.pllmul) (λ m. sys_pll_of 6 (output.At m))) ≡ gives x
+    (◌>>=◌ (main_pll_of h f.cfgr0.pllsrc f.cfgr0.pllmul) (λ m. sys_pll_of 6 (Some m))) ≡ gives x
 unfolding main_of sys_pll_of
-main_pll_lem h source pll.Absent f {main} {x} q laid r =
-    let none : sys_pll_of 6 output.Absent ≡ gives x = subst (λ (o : Output). sys_pll_of 6 o ≡ gives x) (sym (same_given q)) r in
+main_pll_lem h source None f {main} {x} q laid r =
+    let none : sys_pll_of 6 None ≡ gives x = subst (λ (o : Option Frequency). sys_pll_of 6 o ≡ gives x) (sym (same_given q)) r in
     refuses_gives none
-main_pll_lem h source (pll.Mul m) f {main} {x} q laid r =
+main_pll_lem h source (Some m) f {main} {x} q laid r =
     let b = bound (main_pll_of h (eqb source 1) m) _ q in
-    rw (laid.0, laid.1, b.gave) (subst (λ (o : Output). sys_pll_of 6 o ≡ gives x) (sym (same_given b.after)) r)
+    rw (laid.0, laid.1, b.gave) (subst (λ (o : Option Frequency). sys_pll_of 6 o ≡ gives x) (sym (same_given b.after)) r)
 
 -- what the check's sources tell, of the parts that may feed SYSCLK
-pub record Sourced (c : Config) (main : Output) : Type 0 where
+pub record Sourced (c : Config) (main : Option Frequency) : Type 0 where
   pub main_gave : main_of (hse_frequency_of c.hse) c.pll_src c.pll ≡ gives main
   pub eth_gave : eth_of (hse_frequency_of c.hse) c.ethpll ≡ gives tt
   pub usbhs_gave : usb_hs_of (hse_frequency_of c.hse) c.ethpll c.hspll ≡ gives tt
 
-pub sourced : (c : Config) {main : Output} → sources_of c ≡ gives main → Sourced c main
+pub sourced : (c : Config) {main : Option Frequency} → sources_of c ≡ gives main → Sourced c main
 unfolding sources_of
 sourced c q =
     let h = hse_frequency_of c.hse in
@@ -102,7 +97,7 @@ sourced c q =
     record { main_gave = main.gave ∙ usbhs.after; eth_gave = eth.gave; usbhs_gave = usbhs.gave }
 
 -- what SYSPLL takes in: a PLL that the check found configured, and the decoder finds running
-input : (c : Config) (f : Fields) {main : Output} {x : Frequency} → Laid c f → Sourced c main → named_hs_pll c.hspll ≡ true →
+input : (c : Config) (f : Fields) {main : Option Frequency} {x : Frequency} → Laid c f → Sourced c main → named_hs_pll c.hspll ≡ true →
     check.sys_pll_input_of main c.hspll c.ethpll c.syspll_src ≡ gives x →
     sys_pll_input_of f.cfgr2 f.cfgr0.pllsrc f.cfgr0.pllmul (hse_frequency_of c.hse) ≡ gives x
 unfolding check.sys_pll_input_of sys_pll_input_of eth_of
@@ -131,7 +126,7 @@ input c f {main} {x} laid s named q =
     (λ k. no_source source main e k six eleven.after)))
 
 -- SYSCLK
-system : (c : Config) (f : Fields) {main : Output} {sys : Frequency} → Laid c f → Sourced c main → Named c → check.sysclk_of main c ≡ gives sys →
+system : (c : Config) (f : Fields) {main : Option Frequency} {sys : Frequency} → Laid c f → Sourced c main → Named c → check.sysclk_of main c ≡ gives sys →
     in_use_of f (hse_frequency_of c.hse) ≡ gives sys
 unfolding check.sysclk_of in_use_of
 system c f {main} {sys} laid s named q =
@@ -149,7 +144,7 @@ system c f {main} {sys} laid s named q =
 -- what an accepted check tells, step by step
 pub record Checked (c : Config) (x : ClockRecord) : Type 0 where
   pub named : named_of c ≡ true
-  pub main : Output
+  pub main : Option Frequency
   pub sources : sources_of c ≡ gives main
   pub sys : Frequency
   pub sysclk : check.sysclk_of main c ≡ gives sys

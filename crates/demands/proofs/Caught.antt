@@ -1,6 +1,7 @@
 -- What the steps before 23 write leaves HPRE clear, and so decodes to an HCLK that is SYSCLK, where a configuration that divides AHB was promised
 -- another.
 -- Assumes nothing.
+use Rattle.std.specs.Prelude.{Option}
 use Prim.Native.Nat.{ℕ, ◌/◌, ◌<◌}
 use mathlib.Core.Path.{◌≡◌, sym, ap, ◌∙◌}
 use mathlib.Core.List.{List}
@@ -13,7 +14,6 @@ use Rattle.divider.specs.Frequency.{over}
 use Rattle.divider.specs.Divide.{ahb_divisor, ahb_divisors}
 use Rattle.divider.specs.Table.{at}
 use Rattle.tree.specs.declared.Clocks.{Clocks}
-use Rattle.tree.specs.declared.HseFrequency.{HseFrequency}
 use Rattle.image.specs.declared.Fields.{Fields}
 use Rattle.decoder.specs.Decode.{decode_of}
 use Rattle.decoder.specs.Order.{sysclk_hz}
@@ -31,7 +31,7 @@ given {l = l} {v = v} {x = x} h e = at (first_of l) (sym h.is ∙ e)
     at (gives u) q = same_given q
     at (refuses n) q = refuses_gives q
 
-decoded : (f : Fields) (h : HseFrequency) {k : Clocks} → f.cfgr0.hpre ≡ 0 → decode_of f h ≡ gives k → k.hclk ≡ k.sysclk
+decoded : (f : Fields) (h : Option ℕ) {k : Clocks} → f.cfgr0.hpre ≡ 0 → decode_of f h ≡ gives k → k.hclk ≡ k.sysclk
 unfolding over ahb_divisor ahb_divisors
 decoded f h e q =
     let is = rw e at (given (decode_else f h) q) in

@@ -1,5 +1,6 @@
 -- An accepted configuration's steps leave fields that hold what it asks for, so that they decode to the promised clocks.
 -- Assumes nothing.
+use Rattle.std.specs.Prelude.{Option, None, Some}
 use Prim.Native.Nat.{ℕ, ◌+◌}
 use mathlib.Core.Path.{◌≡◌, refl, sym, ap, ◌∙◌}
 use mathlib.Core.Bool.{Bool, true, false, cond, not, ◌&&◌}
@@ -12,17 +13,13 @@ use Rattle.divider.specs.declared.Frequency.{Frequency}
 use Rattle.divider.specs.Frequency.{whole}
 use Rattle.tree.specs.declared.Clocks.{Clocks}
 use Rattle.v4x7_rules.specs.Rules.{hse_in_range, used_hse_of, reference_code_of}
-use Rattle.v4x7.specs.declared.Hse.{Hse}
-use Rattle.v4x7.specs.declared.Hse.TheVariants as hse
-use Rattle.v4x7.specs.declared.Pll.{Pll}
-use Rattle.v4x7.specs.declared.Pll.TheVariants as pll
-use Rattle.v4x7.specs.declared.HsPll.{HsPll}
-use Rattle.v4x7.specs.declared.HsPll.TheVariants as hspll
+use Rattle.tree.specs.declared.Hse.{Hse}
 use Rattle.v4x7.specs.declared.AdcClockSource.{AdcClockSource}
 use Rattle.v4x7.specs.declared.AdcClockSource.TheVariants as adc
 use Rattle.v4x7.specs.declared.Config.{Config}
 use Rattle.v4x7.specs.declared.ClockRecord.{ClockRecord}
-use Rattle.v4x7.specs.Check.{check_of, has_hse, has_usb_hs, has_main, hse_frequency_of, reference_of, usb_hs_of}
+use Rattle.tree.specs.Tree.{hse_frequency_of}
+use Rattle.v4x7.specs.Check.{check_of, has_hse, has_usb_hs, has_main, reference_of, usb_hs_of}
 use Rattle.image.specs.declared.Fields.{Fields}
 use Rattle.decoder.specs.Decode.{decode_of}
 use Rattle.demands.specs.Laid.{PllLaid, HsPllLaid, Laid}
@@ -42,60 +39,60 @@ use Rattle.image.specs.Width.{Wide, in_width_lem}
 use Rattle.demands.proofs.Width.{see, tame}
 
 -- Steps 8 and 9, 11, 13 and 14, 16 and 17, taken or skipped.
-abbrev hse_out : Hse → Fields → Fields
+abbrev hse_out : Option Hse → Fields → Fields
 hse_out h f =
     let on = has_hse h in
     let g = cond on (bypass h f) f in
     cond on (hse_on g) g
 
-abbrev usb_hs_out : Hse → HsPll → Fields → Fields
+abbrev usb_hs_out : Option Hse → Option ℕ → Fields → Fields
 usb_hs_out h p f =
     let on = has_usb_hs p in
     let g = cond on (usb_hs_source h p f) f in
     cond on (usb_hs_on g) g
 
-abbrev main_out : ℕ → Pll → Fields → Fields
+abbrev main_out : ℕ → Option ℕ → Fields → Fields
 main_out source p f =
     let on = has_main p in
     let g = cond on (main_source source p f) f in
     cond on (main_on g) g
 
 -- The bits of the USBHS PLL and of the main PLL, in fields that have them clear.
-pll_bits : (h : Hse) (u : HsPll) (source : ℕ) (p : Pll) (f : Fields) → f.ctlr.usbhs_pllon ≡ false → f.ctlr.pllon ≡ false →
+pll_bits : (h : Option Hse) (u : Option ℕ) (source : ℕ) (p : Option ℕ) (f : Fields) → f.ctlr.usbhs_pllon ≡ false → f.ctlr.pllon ≡ false →
     enable_bits (main_out source p (usb_hs_out h u f)).ctlr ≡
     cond f.ctlr.hseon 8 0 + cond f.ctlr.eth_pllon 4 0 + cond (has_usb_hs u) 2 0 + cond (has_main p) 1 0
-pll_bits h hspll.Absent source pll.Absent f a b = rw (a, b)
-pll_bits h hspll.Absent source (pll.Mul m) f a b = rw a
-pll_bits h (hspll.From s) source pll.Absent f a b = rw b
-pll_bits h (hspll.From s) source (pll.Mul m) f a b = refl
+pll_bits h None source None f a b = rw (a, b)
+pll_bits h None source (Some m) f a b = rw a
+pll_bits h (Some s) source None f a b = rw b
+pll_bits h (Some s) source (Some m) f a b = refl
 
 -- The parts that these turn on, after step 6, are those of the enable bits.
-turned_on_lem : (h : Hse) (eth : Bool) (u : HsPll) (source : ℕ) (p : Pll) (f : Fields) →
+turned_on_lem : (h : Option Hse) (eth : Bool) (u : Option ℕ) (source : ℕ) (p : Option ℕ) (f : Fields) →
     let g = hse_out h (all_off f) in
     enable_bits (main_out source p (usb_hs_out h u (cond eth (eth_on g) g))).ctlr ≡
     cond (has_hse h) 8 0 + cond eth 4 0 + cond (has_usb_hs u) 2 0 + cond (has_main p) 1 0
-turned_on_lem hse.Absent false u source p f = pll_bits hse.Absent u source p (all_off f) refl refl
-turned_on_lem hse.Absent true u source p f = pll_bits hse.Absent u source p (eth_on (all_off f)) refl refl
-turned_on_lem (hse.Present b hz) false u source p f = let h = hse.Present b hz in pll_bits h u source p (hse_out h (all_off f)) refl refl
-turned_on_lem (hse.Present b hz) true u source p f = let h = hse.Present b hz in pll_bits h u source p (eth_on (hse_out h (all_off f))) refl refl
+turned_on_lem None false u source p f = pll_bits None u source p (all_off f) refl refl
+turned_on_lem None true u source p f = pll_bits None u source p (eth_on (all_off f)) refl refl
+turned_on_lem (Some hse) false u source p f = pll_bits (Some hse) u source p (hse_out (Some hse) (all_off f)) refl refl
+turned_on_lem (Some hse) true u source p f = pll_bits (Some hse) u source p (eth_on (hse_out (Some hse) (all_off f))) refl refl
 
 -- The main PLL's fields, where it is configured, are as step 16 wrote them; step 16 keeps CFGR2.
-main_laid : (source : ℕ) (p : Pll) (f g : Fields) → g.cfgr0.pllsrc ≡ (main_out source p f).cfgr0.pllsrc →
+main_laid : (source : ℕ) (p : Option ℕ) (f g : Fields) → g.cfgr0.pllsrc ≡ (main_out source p f).cfgr0.pllsrc →
     g.cfgr0.pllmul ≡ (main_out source p f).cfgr0.pllmul → PllLaid p source g
-main_laid source pll.Absent f g a b = tt
-main_laid source (pll.Mul m) f g a b = (a, b)
+main_laid source None f g a b = tt
+main_laid source (Some m) f g a b = (a, b)
 
-main_keeps : (source : ℕ) (p : Pll) (f : Fields) → (main_out source p f).cfgr2 ≡ f.cfgr2
-main_keeps source pll.Absent f = refl
-main_keeps source (pll.Mul m) f = refl
+main_keeps : (source : ℕ) (p : Option ℕ) (f : Fields) → (main_out source p f).cfgr2 ≡ f.cfgr2
+main_keeps source None f = refl
+main_keeps source (Some m) f = refl
 
 -- The reference that the check found is the one that step 13 has the code of.
-used_hz : (h : Hse) {x : Frequency} → used_hse_of (hse_frequency_of h) ≡ gives x → hse_hz h ≡ x.hz
+used_hz : (h : Option Hse) {x : Frequency} → used_hse_of (hse_frequency_of h) ≡ gives x → hse_hz h ≡ x.hz
 unfolding used_hse_of
-used_hz hse.Absent q = refuses_gives q
-used_hz (hse.Present byp f) q = ap (λ (x : Frequency). x.hz) (same_given (followed (hse_in_range f) (gives (whole f)) q).after)
+used_hz None q = refuses_gives q
+used_hz (Some hse) q = ap (λ (x : Frequency). x.hz) (same_given (followed (hse_in_range hse.freq) (gives (whole hse.freq)) q).after)
 
-reference_is : (h : Hse) (eth : Bool) (s : ℕ) {x : Frequency} → reference_of (hse_frequency_of h) eth s ≡ gives x → reference h s ≡ x.hz
+reference_is : (h : Option Hse) (eth : Bool) (s : ℕ) {x : Frequency} → reference_of (hse_frequency_of h) eth s ≡ gives x → reference h s ≡ x.hz
 unfolding reference_of
 reference_is h eth s {x} q = at (eqb s 0) q
   where
@@ -104,11 +101,11 @@ reference_is h eth s {x} q = at (eqb s 0) q
     at true e = used_hz h e
     at false e = ap (λ (x : Frequency). x.hz) (same_given (passed 7 (eqb s 2 && not eth) (gives (whole 20000000)) e).after)
 
-usbhs_laid : (c : Config) (p : HsPll) (f g : Fields) → g.cfgr2.usbhspllsrc ≡ (usb_hs_out c.hse p f).cfgr2.usbhspllsrc →
+usbhs_laid : (c : Config) (p : Option ℕ) (f g : Fields) → g.cfgr2.usbhspllsrc ≡ (usb_hs_out c.hse p f).cfgr2.usbhspllsrc →
     g.cfgr2.usbhspllclk ≡ (usb_hs_out c.hse p f).cfgr2.usbhspllclk → usb_hs_of (hse_frequency_of c.hse) c.ethpll p ≡ gives tt → HsPllLaid c p g
 unfolding usb_hs_of
-usbhs_laid c hspll.Absent f g a b q = tt
-usbhs_laid c (hspll.From s) f g a b q =
+usbhs_laid c None f g a b q = tt
+usbhs_laid c (Some s) f g a b q =
     let r = bound (reference_of (hse_frequency_of c.hse) c.ethpll s) _ q in
     let k = followed (reference_code_of r.value.hz) _ r.after in
     let found = reference_is c.hse c.ethpll s r.gave in

@@ -1,4 +1,5 @@
 -- The first demand holds. Assumes nothing.
+use Rattle.std.specs.Prelude.{Result, Ok, Err}
 use Prim.Native.Nat.{ℕ, ◌*◌, ◌<◌}
 use mathlib.Core.Path.{◌≡◌, refl, sym, ap, ◌∙◌}
 use mathlib.Core.Bool.{Bool, true, false, ◌&&◌}
@@ -8,43 +9,29 @@ use lib.Dec.{ltb}
 use mathlib.Core.List.{List, [], ◌∷◌, ◌++◌}
 use Rattle.answer.specs.Answer.{Answer, gives, refuses, ◌>>◌, refuses_gives, gives_refuses, same_refusal}
 use Rattle.answer.specs.Tools.{and_left, and_right}
-use Rattle.answer.specs.Said.{reply_says, outcome_says, reply_settled, outcome_settled}
+use Rattle.answer.specs.declared.Refusal.{Refusal}
+use Rattle.answer.specs.Said.{number_of, says, settled}
 use Rattle.answer.specs.Order.{Test, first_of, bare, behind, order_behind, OrElse, else_order, else_refuse}
-use Rattle.divider.specs.Frequency.{rate_says, rate_settled}
-use Rattle.divider.specs.Divide.{quotient_says, quotient_settled}
 use Rattle.divider.specs.Laws.{ahb_else, apb_else, by_ahb_else, by_apb_else, apb_quotient_else}
 use Rattle.layout.specs.Lent.{written, after}
-use Rattle.tree.specs.Tree.{buses_says, bus_says, buses_settled}
 use Rattle.tree.specs.Order.{below_else, clocks_else}
-use Rattle.v4x7_rules.specs.Rules.{ratio_says, ratio_settled, hse_in_range}
+use Rattle.v4x7_rules.specs.Rules.{hse_in_range}
 use Rattle.v4x7_rules.specs.Plain.{outside}
 use Rattle.v4x7_rules.proofs.Order as rules
 use Rattle.v4x7.specs.declared.Config.{Config}
-use Rattle.v4x7.specs.Check.{checked_says, checked_settled}
 use Rattle.v4x7.specs.Order.{check_tests}
 use Rattle.v4x7.proofs.Order.{check_in_order}
-use Rattle.profile.specs.Profile.{read_profile_says, profile_bytes}
+use Rattle.profile.specs.Profile.{profile_bytes}
 use Rattle.profile.specs.Profile as profile
 use Rattle.profile.specs.Order as profileOrder
-use Rattle.image.specs.Image.{read_image_says, image_bytes}
-use Rattle.image.specs.Image as image
+use Rattle.image.specs.Image.{image_bytes}
 use Rattle.image.specs.Order as imageOrder
-use Rattle.decoder.specs.Queries.{query_says, query_settled}
 use Rattle.decoder.proofs.Order.{decode_in_order, adc_in_order, rng_in_order}
-use Rattle.startup.specs.Call.{started_says, started_settled}
 use Rattle.startup.proofs.Order.{step_in_order, unaccepted_28, start_goes, waits_in_order, calls_in_order}
-use Rattle.pll32.specs.Pll as pll32
-use Rattle.pll32.specs.Laws as laws32
 use Rattle.pll32.proofs.Order as order32
-use Rattle.v1.specs.V1 as v1
-use Rattle.v1.proofs.Laws as laws1
 use Rattle.v1.proofs.Order as order1
-use Rattle.v30x.specs.V30x as v30x
-use Rattle.v30x.proofs.Laws as laws30
 use Rattle.v30x.proofs.Order as order30
-use Rattle.h4.specs.H4.{prescaled_says, prescaled_settled, bus_settled}
 use Rattle.h4.specs.Order as order4
-use Rattle.serial.specs.Serial.{serial_says, serial_settled}
 use Rattle.serial.proofs.Order.{divisor_in_order, port_in_order}
 use Rattle.boards.specs.Tray.{boards_in, tray_of}
 use Rattle.boards.specs.Order.{tray_in_order}
@@ -53,13 +40,16 @@ use Rattle.capi_give.specs.Given.{number_in, GivenOne}
 use Rattle.demands.specs.First.{Answers, write_of, Parts, Demand1}
 use Rattle.demands.proofs.Kept.{handed_back_lem}
 
--- a call whose answer is decided by what it says, and whose refusal says its number
-answers : {I E A : Type 0} (says : E → Answer A) (refused : ℕ → E) {of : I → Answer A} {tests : I → List Test} →
-    ((n : ℕ) → says (refused n) ≡ refuses n) → ((r s : E) → says r ≡ says s → r ≡ s) → ((i : I) → bare (of i) ≡ first_of (tests i)) →
-    Answers says refused of tests
-answers says refused number same order = record {
-  settled = λ i r s e g. same r s (e ∙ sym g);
-  alone = λ i r n e q. same r (refused n) (e ∙ q ∙ sym (number n));
+-- an answer that says a refusal is the one of that number
+refused : {A : Type 0} (r : Result A Refusal) (n : ℕ) → says r ≡ refuses n → (e : Refusal) × (r ≡ Err e) × (number_of e ≡ n)
+refused (Ok x) n e = gives_refuses e
+refused (Err e) n q = (e, refl, same_refusal q)
+
+-- a call whose refusals go by a list: what it says decides its answer
+answers : {I A : Type 0} {of : I → Answer A} {tests : I → List Test} → ((i : I) → bare (of i) ≡ first_of (tests i)) → Answers of tests
+answers order = record {
+  settled = λ i r s e g. settled r s (e ∙ sym g);
+  alone = λ i r n e q. refused r n (e ∙ q);
   in_order = order;
 }
 
@@ -123,70 +113,70 @@ numbered p e = first_named (profileOrder.check_profile_tests p) (all_named (prof
 
 parts : Parts
 parts = record {
-  ahb = answers reply_says _ (λ n. refl) reply_settled (λ x. goes (ahb_else x.0 x.1));
-  apb = answers reply_says _ (λ n. refl) reply_settled (λ c. goes (apb_else c));
-  by_ahb = answers rate_says _ (λ n. refl) rate_settled (λ x. goes (by_ahb_else x.0 x.1 x.2));
-  by_apb = answers rate_says _ (λ n. refl) rate_settled (λ x. goes (by_apb_else x.0 x.1));
-  apb_quotient = answers quotient_says _ (λ n. refl) quotient_settled (λ x. goes (apb_quotient_else x.0 x.1));
-  below = answers buses_says _ (λ n. refl) buses_settled (λ x. goes (below_else x.0 x.1 x.2 x.3 x.4));
-  clocks = answers buses_says _ (λ n. refl) buses_settled (λ x. goes (clocks_else x.0 x.1 x.2 x.3 x.4));
-  hse_in_range_lem = answers outcome_says _ (λ n. refl) outcome_settled in_range;
-  used_hse = answers rate_says _ (λ n. refl) rate_settled rules.used_hse_in_order;
-  main_pll_lem = answers rate_says _ (λ n. refl) rate_settled (λ x. rules.main_pll_in_order x.0 x.1 x.2);
-  eth_pll_lem = answers outcome_says _ (λ n. refl) outcome_settled rules.eth_pll_in_order;
-  reference_code_lem = answers reply_says _ (λ n. refl) reply_settled (λ hz. goes (rules.reference_code_else hz));
-  syspll = answers rate_says _ (λ n. refl) rate_settled (λ x. rules.sys_pll_in_order x.0 x.1);
-  buses_of_lem = answers buses_says _ (λ n. refl) buses_settled (λ x. rules.buses_in_order x.0 x.1 x.2 x.3);
-  adc_from_hclk = answers ratio_says _ (λ n. refl) ratio_settled (λ x. goes (rules.adc_from_hclk_else x.0 x.1 x.2 x.3));
-  adc_from_usbhs = answers ratio_says _ (λ n. refl) ratio_settled (λ x. rules.adc_from_usbhs_in_order x.0 x.1 x.2);
-  source = answers rate_says _ (λ n. refl) rate_settled (λ x. order32.source_in_order x.0 x.1);
-  output = answers rate_says _ (λ n. refl) rate_settled (λ x. order32.pll_output_in_order x.0 x.1 x.2);
+  ahb = answers (λ x. goes (ahb_else x.0 x.1));
+  apb = answers (λ c. goes (apb_else c));
+  by_ahb = answers (λ x. goes (by_ahb_else x.0 x.1 x.2));
+  by_apb = answers (λ x. goes (by_apb_else x.0 x.1));
+  apb_quotient = answers (λ x. goes (apb_quotient_else x.0 x.1));
+  below = answers (λ x. goes (below_else x.0 x.1 x.2 x.3 x.4));
+  clocks = answers (λ x. goes (clocks_else x.0 x.1 x.2 x.3 x.4));
+  hse_in_range_lem = answers in_range;
+  used_hse = answers rules.used_hse_in_order;
+  main_pll_lem = answers (λ x. rules.main_pll_in_order x.0 x.1 x.2);
+  eth_pll_lem = answers rules.eth_pll_in_order;
+  reference_code_lem = answers (λ hz. goes (rules.reference_code_else hz));
+  syspll = answers (λ x. rules.sys_pll_in_order x.0 x.1);
+  buses_of_lem = answers (λ x. rules.buses_in_order x.0 x.1 x.2 x.3);
+  adc_from_hclk = answers (λ x. goes (rules.adc_from_hclk_else x.0 x.1 x.2 x.3));
+  adc_from_usbhs = answers (λ x. rules.adc_from_usbhs_in_order x.0 x.1 x.2);
+  source = answers (λ x. order32.source_in_order x.0 x.1);
+  output = answers (λ x. order32.pll_output_in_order x.0 x.1 x.2);
   configured =
-      answers pll32.checked_says _ (λ n. refl) laws32.checked_settled
+      answers
       (λ x. order32.configured_clocks_in_order x.0 x.1 x.2 x.3 x.4 x.5 x.6);
   decoded =
-      answers buses_says _ (λ n. refl) buses_settled
+      answers
       (λ x. order32.decoded_clocks_in_order x.0 x.1 x.2 x.3 x.4 x.5 x.6);
 }
 
 pub demand1 : Demand1
 demand1 = record {
-  check = answers checked_says _ (λ n. refl) checked_settled check_in_order;
-  check_profile_lem = answers checked_says _ (λ n. refl) checked_settled check_profile_in_order;
+  check = answers check_in_order;
+  check_profile_lem = answers check_profile_in_order;
   numbered = numbered;
-  read_profile_lem = answers read_profile_says _ (λ n. refl) profile.read_settled profileOrder.read_in_order;
-  read_image_lem = answers read_image_says _ (λ n. refl) image.read_settled imageOrder.read_in_order;
+  read_profile_lem = answers profileOrder.read_in_order;
+  read_image_lem = answers imageOrder.read_in_order;
   write_profile =
-      answers outcome_says _ (λ n. refl) outcome_settled (λ x. writes 10 (profile_bytes x.0) x.1 ∙ profileOrder.write_in_order x.0 x.1);
-  write_image = answers outcome_says _ (λ n. refl) outcome_settled (λ x. writes 8 (image_bytes x.0) x.1 ∙ imageOrder.write_in_order x.0 x.1);
-  decode = answers buses_says _ (λ n. refl) buses_settled (λ x. decode_in_order x.0 x.1);
-  adc_query = answers query_says _ (λ n. refl) query_settled (λ x. adc_in_order x.0 x.1);
-  rng_query = answers query_says _ (λ n. refl) query_settled (λ x. rng_in_order x.0 x.1);
+      answers (λ x. writes 10 (profile_bytes x.0) x.1 ∙ profileOrder.write_in_order x.0 x.1);
+  write_image = answers (λ x. writes 8 (image_bytes x.0) x.1 ∙ imageOrder.write_in_order x.0 x.1);
+  decode = answers (λ x. decode_in_order x.0 x.1);
+  adc_query = answers (λ x. adc_in_order x.0 x.1);
+  rng_query = answers (λ x. rng_in_order x.0 x.1);
   start =
-      answers started_says _ (λ n. refl) started_settled
+      answers
       (λ x. (start_goes x.0 x.1 {check = check_tests x.0} (record { goes = check_in_order x.0 })).goes);
-  waits = answers reply_says _ (λ n. refl) reply_settled waits_in_order;
-  calls = answers reply_says _ (λ n. refl) reply_settled calls_in_order;
+  waits = answers waits_in_order;
+  calls = answers calls_in_order;
   step = step_in_order;
   unaccepted = unaccepted_28;
-  check1 = answers pll32.checked_says _ (λ n. refl) laws32.checked_settled (λ x. order1.check_in_order x.0 x.1);
-  fields1 = answers v1.written_says _ (λ n. refl) laws1.written_settled (λ x. order1.fields_in_order x.0 x.1 x.2);
-  decode1 = answers buses_says _ (λ n. refl) buses_settled (λ x. order1.decode_in_order x.0 x.1 x.2);
-  check30 = answers pll32.checked_says _ (λ n. refl) laws32.checked_settled order30.check_in_order;
-  fields30 = answers v30x.written_says _ (λ n. refl) laws30.written_settled (λ x. order30.fields_in_order x.0 x.1);
-  decode30 = answers buses_says _ (λ n. refl) buses_settled (λ x. order30.decode_in_order x.0 x.1);
-  clocks4 = answers prescaled_says _ (λ n. refl) prescaled_settled (λ x. order4.prescaled_in_order x.0 x.1);
-  pclk4 = answers bus_says _ (λ n. refl) bus_settled (λ x. order4.pclk_in_order x.0 x.1);
-  ahb4 = answers rate_says _ (λ n. refl) rate_settled (λ x. order4.ahb_in_order x.0 x.1);
-  doubled4 = answers reply_says _ (λ n. refl) reply_settled order4.doubled_in_order;
-  divisor = answers serial_says _ (λ n. refl) serial_settled (λ x. divisor_in_order x.0 x.1);
-  port = answers serial_says _ (λ n. refl) serial_settled (λ x. port_in_order x.0 x.1 x.2);
+  check1 = answers (λ x. order1.check_in_order x.0 x.1);
+  fields1 = answers (λ x. order1.fields_in_order x.0 x.1 x.2);
+  decode1 = answers (λ x. order1.decode_in_order x.0 x.1 x.2);
+  check30 = answers order30.check_in_order;
+  fields30 = answers (λ x. order30.fields_in_order x.0 x.1);
+  decode30 = answers (λ x. order30.decode_in_order x.0 x.1);
+  clocks4 = answers (λ x. order4.prescaled_in_order x.0 x.1);
+  pclk4 = answers (λ x. order4.pclk_in_order x.0 x.1);
+  ahb4 = answers (λ x. order4.ahb_in_order x.0 x.1);
+  doubled4 = answers order4.doubled_in_order;
+  divisor = answers (λ x. divisor_in_order x.0 x.1);
+  port = answers (λ x. port_in_order x.0 x.1 x.2);
   tray =
-      answers outcome_says _ (λ n. refl) outcome_settled
+      answers
       (λ x. writes (32 * boards_in x.0) (tray_of x.0) x.1 ∙ tray_in_order x.0 x.1);
   reported = report_in_order;
   parts = parts;
-  write = λ n m l l' k w. left l l' k (written n m l) w.answer w.bytes;
+  write = λ n m l l' e w. left l l' (number_of e) (written n m l) w.answer w.bytes;
   call = λ n m l l' r g h. untouched l l' r (written n m l) g.number g.lent h;
   call_one = untouched_one;
   handed_back_lem = handed_back_lem;

@@ -1,5 +1,6 @@
 -- Each number of the first demand's lists is given: an input for each, and its definition computed.
 -- Assumes nothing.
+use Rattle.std.specs.Prelude.{Option, None, Some}
 use Prim.Native.Nat.{ℕ}
 use mathlib.Core.Path.{◌≡◌, refl, ap, ◌∙◌}
 use mathlib.Core.Bool.{Bool, true, false}
@@ -10,15 +11,8 @@ use Rattle.divider.specs.Divide.{ahb_of, ahb_divisor, ahb_divisors, apb_of, apb_
 use Rattle.divider.specs.Frequency.{over}
 use Rattle.tree.specs.Tree.{clocks_of, below_of, bus_of, timer_clock}
 use Rattle.v4x7_rules.specs.Rules.{hse_in_range, used_hse_of, main_pll_input, main_pll_of, eth_pll_of, reference_code_of, two_thirds, sys_pll_of, buses_of, adc_from_hclk_of, adc_from_usb_hs_of, total_of}
-use Rattle.tree.specs.declared.HseFrequency.{HseFrequency}
-use Rattle.tree.specs.declared.HseFrequency.TheVariants as frequency
 use Rattle.v4x7.specs.declared.Config.{Config}
-use Rattle.v4x7.specs.declared.Hse.{Hse}
-use Rattle.v4x7.specs.declared.Hse.TheVariants as hse
-use Rattle.v4x7.specs.declared.Pll.{Pll}
-use Rattle.v4x7.specs.declared.Pll.TheVariants as pll
-use Rattle.v4x7.specs.declared.HsPll.{HsPll}
-use Rattle.v4x7.specs.declared.HsPll.TheVariants as hspll
+use Rattle.tree.specs.declared.Hse.{Hse}
 use Rattle.v4x7.specs.declared.AdcClockSource.{AdcClockSource}
 use Rattle.v4x7.specs.declared.AdcClockSource.TheVariants as adc
 use Rattle.v4x7.specs.Check.{named, rng_of, hse_present_of, main_of, eth_of, reference_of, usb_hs_of, sources_of, sys_pll_input_of, sysclk_of, system_of}
@@ -56,7 +50,7 @@ each_behind of other into f goes (n ∷ l) e =
     (by (into i) (goes i ∙ refused_behind n (of i) (f i) e.0.number), each_behind of other into f goes l e.1)
 
 -- a configuration: HSE, system clock, PLL source, PLL, SYSPLL source, USBHS PLL, ETH PLL, RNG, ADC source; all prescalers at 1, the ADC's at 8
-abbrev setup : Hse → ℕ → ℕ → Pll → ℕ → HsPll → Bool → ℕ → AdcClockSource → Config
+abbrev setup : Option Hse → ℕ → ℕ → Option ℕ → ℕ → Option ℕ → Bool → ℕ → AdcClockSource → Config
 setup h sys source p syspll usbhs eth rng ad =
     record {
       hse = h;
@@ -76,8 +70,8 @@ setup h sys source p syspll usbhs eth rng ad =
       adc_duty = 0;
     }
 
-abbrev xtal : ℕ → Hse
-xtal hz = hse.Present false hz
+abbrev xtal : ℕ → Option Hse
+xtal hz = Some (record { bypass = false; freq = hz })
 
 pub checks : EachGiven check_of check_given
 unfolding check_of named system_of sources_of rng_of hse_present_of hse_in_range used_hse_of main_of main_pll_input main_pll_of eth_of eth_pll_of usb_hs_of reference_of
@@ -85,22 +79,22 @@ unfolding check_of named system_of sources_of rng_of hse_present_of hse_in_range
     adc_from_usb_hs_of total_of ahb_of ahb_divisor ahb_divisors apb_of apb_divisor by_ahb_of apb_quotient_of over
 checks =
     let inputs : List Config =
-    setup hse.Absent 3 0 pll.Absent 0 hspll.Absent false 0 adc.Hclk
-    ∷ setup hse.Absent 0 0 pll.Absent 0 hspll.Absent false 1 adc.Hclk
-    ∷ setup hse.Absent 0 0 pll.Absent 0 hspll.Absent false 2 adc.Hclk
-    ∷ setup (xtal 4999999) 0 0 pll.Absent 0 hspll.Absent false 0 adc.Hclk
-    ∷ setup hse.Absent 0 1 (pll.Mul 0) 0 hspll.Absent false 0 adc.Hclk
-    ∷ setup hse.Absent 0 0 (pll.Mul 31) 0 hspll.Absent false 0 adc.Hclk
-    ∷ setup (xtal 24000000) 0 0 pll.Absent 0 hspll.Absent true 0 adc.Hclk
-    ∷ setup hse.Absent 0 0 pll.Absent 0 (hspll.From 2) false 0 adc.Hclk
-    ∷ setup (xtal 10000000) 0 0 pll.Absent 0 (hspll.From 0) false 0 adc.Hclk
-    ∷ setup hse.Absent 2 0 pll.Absent 6 hspll.Absent false 0 adc.Hclk
-    ∷ setup hse.Absent 2 0 pll.Absent 0 hspll.Absent false 0 adc.Hclk
-    ∷ setup hse.Absent 2 0 pll.Absent 1 hspll.Absent false 0 adc.Hclk
-    ∷ setup hse.Absent 2 0 pll.Absent 0 (hspll.From 1) false 0 adc.Hclk
-    ∷ setup hse.Absent 0 0 pll.Absent 0 hspll.Absent false 0 (adc.UsbHsPll 8)
-    ∷ setup hse.Absent 0 0 pll.Absent 0 (hspll.From 1) false 0 (adc.UsbHsPll 0)
-    ∷ setup hse.Absent 0 0 pll.Absent 0 (hspll.From 1) false 0 (adc.UsbHsPll 1)
+    setup None 3 0 None 0 None false 0 adc.Hclk
+    ∷ setup None 0 0 None 0 None false 1 adc.Hclk
+    ∷ setup None 0 0 None 0 None false 2 adc.Hclk
+    ∷ setup (xtal 4999999) 0 0 None 0 None false 0 adc.Hclk
+    ∷ setup None 0 1 (Some 0) 0 None false 0 adc.Hclk
+    ∷ setup None 0 0 (Some 31) 0 None false 0 adc.Hclk
+    ∷ setup (xtal 24000000) 0 0 None 0 None true 0 adc.Hclk
+    ∷ setup None 0 0 None 0 (Some 2) false 0 adc.Hclk
+    ∷ setup (xtal 10000000) 0 0 None 0 (Some 0) false 0 adc.Hclk
+    ∷ setup None 2 0 None 6 None false 0 adc.Hclk
+    ∷ setup None 2 0 None 0 None false 0 adc.Hclk
+    ∷ setup None 2 0 None 1 None false 0 adc.Hclk
+    ∷ setup None 2 0 None 0 (Some 1) false 0 adc.Hclk
+    ∷ setup None 0 0 None 0 None false 0 (adc.UsbHsPll 8)
+    ∷ setup None 0 0 None 0 (Some 1) false 0 (adc.UsbHsPll 0)
+    ∷ setup None 0 0 None 0 (Some 1) false 0 (adc.UsbHsPll 1)
     ∷ [] in
     by_row check_of inputs check_given refl
 
@@ -125,23 +119,23 @@ fields sws pllsrc pllmul usbhssrc usbhsclk syspllsrc =
       flash = record { sckmod = 0; lock = false; flock = false };
     }
 
-pub decodes : EachGiven (λ (x : Fields × HseFrequency). decode_of x.0 x.1) decode_given
+pub decodes : EachGiven (λ (x : Fields × Option ℕ). decode_of x.0 x.1) decode_given
 unfolding decode_of image.in_widths in_use_of decode.sys_pll_input_of usb_hs_pll_of usb_hs_reference_of hse_in_range used_hse_of main_pll_input main_pll_of eth_pll_of
     reference_code_of sys_pll_of two_thirds buses_of clocks_of below_of bus_of timer_clock ahb_of ahb_divisor ahb_divisors apb_of apb_divisor by_ahb_of
     apb_quotient_of over
 decodes =
-    let inputs : List (Fields × HseFrequency) =
-    (fields 4 false 0 0 0 0, frequency.Absent)
-    ∷ (fields 1 false 0 0 0 0, frequency.Absent)
-    ∷ (fields 1 false 0 0 0 0, frequency.Hz 4999999)
-    ∷ (fields 3 false 0 0 0 0, frequency.Absent)
-    ∷ (fields 2 false 0 0 0 1, frequency.Hz 24000000)
-    ∷ (fields 2 false 0 3 0 0, frequency.Absent)
-    ∷ (fields 2 false 0 0 0 0, frequency.Hz 10000000)
-    ∷ (fields 2 false 0 1 0 0, frequency.Absent)
-    ∷ (fields 2 false 31 0 0 6, frequency.Absent)
-    ∷ (fields 2 false 0 0 0 4, frequency.Absent)
-    ∷ (fields 2 false 0 1 1 0, frequency.Absent)
+    let inputs : List (Fields × Option ℕ) =
+    (fields 4 false 0 0 0 0, None)
+    ∷ (fields 1 false 0 0 0 0, None)
+    ∷ (fields 1 false 0 0 0 0, Some 4999999)
+    ∷ (fields 3 false 0 0 0 0, None)
+    ∷ (fields 2 false 0 0 0 1, Some 24000000)
+    ∷ (fields 2 false 0 3 0 0, None)
+    ∷ (fields 2 false 0 0 0 0, Some 10000000)
+    ∷ (fields 2 false 0 1 0 0, None)
+    ∷ (fields 2 false 31 0 0 6, None)
+    ∷ (fields 2 false 0 0 0 4, None)
+    ∷ (fields 2 false 0 1 1 0, None)
     ∷ [] in
     by_row (λ x. decode_of x.0 x.1) inputs decode_given refl
 
@@ -187,8 +181,8 @@ eight = 0 ∷ 0 ∷ 0 ∷ 0 ∷ 0 ∷ 0 ∷ 0 ∷ 0 ∷ []
 pub write_profiles : EachGiven (λ (x : Config × List ℕ). write_of 10 (profile.profile_bytes x.0) x.1) (32 ∷ 30 ∷ [])
 unfolding profile.profile_bytes profile.writable profile.tests profile.rest_of
 write_profiles = (
-  by (setup hse.Absent 0 0 pll.Absent 0 hspll.Absent false 0 adc.Hclk, []) refl,
-  (by (setup hse.Absent 3 0 pll.Absent 0 hspll.Absent false 0 adc.Hclk, 0 ∷ 0 ∷ eight) refl, tt),
+  by (setup None 0 0 None 0 None false 0 adc.Hclk, []) refl,
+  (by (setup None 3 0 None 0 None false 0 adc.Hclk, 0 ∷ 0 ∷ eight) refl, tt),
 )
 
 pub write_images : EachGiven (λ (x : Fields × List ℕ). write_of 8 (image.image_bytes x.0) x.1) (32 ∷ 28 ∷ [])

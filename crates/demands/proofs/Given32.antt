@@ -1,5 +1,6 @@
 -- The same of V1, L1, V30x, H4, serial divisors and trays, and all of it together.
 -- Assumes nothing.
+use Rattle.std.specs.Prelude.{Option, None, Some}
 use Prim.Native.Nat.{ℕ, ◌*◌}
 use mathlib.Core.Path.{refl}
 use mathlib.Core.Bool.{Bool, true, false}
@@ -11,10 +12,7 @@ use Rattle.divider.specs.declared.Frequency.{Frequency}
 use Rattle.divider.specs.Frequency.{whole, over}
 use Rattle.divider.specs.Divide.{ahb_of, apb_of, by_ahb_of, by_apb_of}
 use Rattle.tree.specs.declared.Clocks.{Clocks}
-use Rattle.tree.specs.declared.HseFrequency.{HseFrequency}
-use Rattle.tree.specs.declared.HseFrequency.TheVariants as frequency
-use Rattle.pll32.specs.declared.Hse.{Hse}
-use Rattle.pll32.specs.declared.Hse.TheVariants as hse
+use Rattle.tree.specs.declared.Hse.{Hse}
 use Rattle.pll32.specs.declared.Source.{Source}
 use Rattle.pll32.specs.declared.Source.TheVariants as from
 use Rattle.pll32.specs.Pll.{factor, multiplied_of, pll_output_of, sysclk_of, configured_clocks_of, decoded_sysclk_of, decoded_clocks_of}
@@ -22,18 +20,12 @@ use Rattle.v1.specs.declared.Chip.{Chip}
 use Rattle.v1.specs.declared.Chip.TheVariants.{V1}
 use Rattle.v1.specs.declared.PllPreDiv.TheVariants.{Div1}
 use Rattle.v1.specs.declared.Pll as pll1
-use Rattle.v1.specs.declared.Pll.TheVariants as is1
 use Rattle.v1.specs.declared.Config as config1
 use Rattle.v1.specs.declared.Fields as in1
 use Rattle.v1.specs.V1 as v1
 use Rattle.v30x.specs.declared.Pll as pll30
-use Rattle.v30x.specs.declared.Pll.TheVariants as is30
 use Rattle.v30x.specs.declared.PllSource.{PllSource}
 use Rattle.v30x.specs.declared.PllSource.TheVariants as source30
-use Rattle.v30x.specs.declared.Pllx.{Pllx}
-use Rattle.v30x.specs.declared.Pllx.TheVariants as pllx
-use Rattle.v30x.specs.declared.HsPll.{HsPll}
-use Rattle.v30x.specs.declared.HsPll.TheVariants as hspll
 use Rattle.v30x.specs.declared.Config as config30
 use Rattle.v30x.specs.declared.Fields as in30
 use Rattle.v30x.specs.V30x as v30x
@@ -46,23 +38,23 @@ use Rattle.demands.specs.First.{EachGiven, write_of, check_given1, check_given30
 use Rattle.demands.proofs.Given.{by, by_row, each_behind, checks, starts, decodes, adc_queries, rng_queries}
 use Rattle.demands.proofs.Given.{check_profiles, read_profiles, read_images, write_profiles, write_images}
 
-abbrev xtal : ℕ → Hse
-xtal hz = hse.Present false hz
+abbrev xtal : ℕ → Option Hse
+xtal hz = Some (record { bypass = false; freq = hz })
 
 -- ---- V1: HSE, system clock, PLL source, PLL; the prescalers at 1
 
-abbrev setup1 : Hse → ℕ → Source → pll1.Pll → config1.Config
+abbrev setup1 : Option Hse → ℕ → Source → Option pll1.Pll → config1.Config
 setup1 h sys source p = record { hse = h; sys = sys; pll_src = source; pll = p; ahb_pre = 0; apb1_pre = 0; apb2_pre = 0 }
 
 checks1 : EachGiven (λ (x : Chip × config1.Config). v1.check_of x.0 x.1) check_given1
 unfolding v1.check_of v1.wide_config v1.configured_pll_of pll_output_of multiplied_of factor over configured_clocks_of sysclk_of
 checks1 =
     let inputs : List (Chip × config1.Config) =
-    (V1, setup1 hse.Absent 0 from.Hsi (is1.Present Div1 16))
-    ∷ (V1, setup1 hse.Absent 1 from.Hsi is1.Absent)
-    ∷ (V1, setup1 (xtal 268435456) 0 from.Hse (is1.Present Div1 15))
-    ∷ (V1, setup1 hse.Absent 3 from.Hsi is1.Absent)
-    ∷ (V1, setup1 hse.Absent 2 from.Hsi is1.Absent)
+    (V1, setup1 None 0 from.Hsi (Some (record { prediv = Div1; mul = 16 })))
+    ∷ (V1, setup1 None 1 from.Hsi None)
+    ∷ (V1, setup1 (xtal 268435456) 0 from.Hse (Some (record { prediv = Div1; mul = 15 })))
+    ∷ (V1, setup1 None 3 from.Hsi None)
+    ∷ (V1, setup1 None 2 from.Hsi None)
     ∷ [] in
     by_row (λ x. v1.check_of x.0 x.1) inputs check_given1 refl
 
@@ -77,19 +69,19 @@ writes1 =
     each_behind (λ (x : Chip × config1.Config). v1.check_of x.0 x.1) (λ x. v1.fields_of x.0 x.1 x.2) (λ x. (x.0, x.1, f))
     (λ x k. gives (v1.written_of x.1 f)) (λ x. refl) check_given1 checks1
 
-decodes1 : EachGiven (λ (x : Chip × in1.Fields × HseFrequency). v1.decode_of x.0 x.1 x.2) (28 ∷ 3 ∷ 24 ∷ [])
+decodes1 : EachGiven (λ (x : Chip × in1.Fields × Option ℕ). v1.decode_of x.0 x.1 x.2) (28 ∷ 3 ∷ 24 ∷ [])
 unfolding v1.decode_of v1.setting_in decoded_clocks_of decoded_sysclk_of pll_output_of multiplied_of factor over
 decodes1 =
-    let inputs : List (Chip × in1.Fields × HseFrequency) =
-    (V1, fields1 4 false 0, frequency.Absent)
-    ∷ (V1, fields1 1 false 0, frequency.Absent)
-    ∷ (V1, fields1 2 true 15, frequency.Hz 268435456)
+    let inputs : List (Chip × in1.Fields × Option ℕ) =
+    (V1, fields1 4 false 0, None)
+    ∷ (V1, fields1 1 false 0, None)
+    ∷ (V1, fields1 2 true 15, Some 268435456)
     ∷ [] in
     by_row (λ x. v1.decode_of x.0 x.1 x.2) inputs (28 ∷ 3 ∷ 24 ∷ []) refl
 
 -- ---- V30x: HSE, system clock, PLL source, PLL, `pllx`, USBHS PLL from HSI; the prescalers at 1
 
-abbrev setup30 : Hse → ℕ → PllSource → pll30.Pll → Pllx → HsPll → config30.Config
+abbrev setup30 : Option Hse → ℕ → PllSource → Option pll30.Pll → Bool → Option ℕ → config30.Config
 setup30 h sys source p pllx usbhs =
     record {
       hse = h;
@@ -108,14 +100,14 @@ checks30 : EachGiven v30x.check_of check_given30
 unfolding v30x.check_of v30x.wide_config v30x.sources_of v30x.configured_pll_of v30x.pll_from_oscillator_of v30x.usbhs_of pll_output_of multiplied_of factor over configured_clocks_of sysclk_of
 checks30 =
     let inputs : List config30.Config =
-    setup30 hse.Absent 4 source30.Hsi is30.Absent pllx.Absent hspll.Absent
-    ∷ setup30 hse.Absent 0 source30.Hsi is30.Absent pllx.Present hspll.Absent
-    ∷ setup30 hse.Absent 1 source30.Hsi is30.Absent pllx.Absent hspll.Absent
-    ∷ setup30 (xtal 330382100) 0 source30.Hse (is30.Present 0 13) pllx.Absent hspll.Absent
-    ∷ setup30 hse.Absent 0 source30.Hsi (is30.Present 2 0) pllx.Absent hspll.Absent
-    ∷ setup30 hse.Absent 0 source30.Hsi is30.Absent pllx.Absent (hspll.Present 2)
-    ∷ setup30 hse.Absent 3 source30.Hsi is30.Absent pllx.Absent hspll.Absent
-    ∷ setup30 hse.Absent 2 source30.Hsi is30.Absent pllx.Absent hspll.Absent
+    setup30 None 4 source30.Hsi None false None
+    ∷ setup30 None 0 source30.Hsi None true None
+    ∷ setup30 None 1 source30.Hsi None false None
+    ∷ setup30 (xtal 330382100) 0 source30.Hse (Some (record { prediv = 0; mul = 13 })) false None
+    ∷ setup30 None 0 source30.Hsi (Some (record { prediv = 2; mul = 0 })) false None
+    ∷ setup30 None 0 source30.Hsi None false (Some 2)
+    ∷ setup30 None 3 source30.Hsi None false None
+    ∷ setup30 None 2 source30.Hsi None false None
     ∷ [] in
     by_row v30x.check_of inputs check_given30 refl
 
@@ -130,14 +122,14 @@ writes30 =
     let f = fields30 0 false 0 in
     each_behind v30x.check_of (λ x. v30x.fields_of x.0 x.1) (λ c. (c, f)) (λ c k. gives (v30x.written_of c f)) (λ c. refl) check_given30 checks30
 
-decodes30 : EachGiven (λ (x : in30.Fields × HseFrequency). v30x.decode_of x.0 x.1) (28 ∷ 27 ∷ 3 ∷ 24 ∷ [])
+decodes30 : EachGiven (λ (x : in30.Fields × Option ℕ). v30x.decode_of x.0 x.1) (28 ∷ 27 ∷ 3 ∷ 24 ∷ [])
 unfolding v30x.decode_of v30x.wide_fields v30x.setting_in decoded_clocks_of decoded_sysclk_of pll_output_of multiplied_of factor over
 decodes30 =
-    let inputs : List (in30.Fields × HseFrequency) =
-    (fields30 4 false 0, frequency.Absent)
-    ∷ (fields30 2 true 0, frequency.Absent)
-    ∷ (fields30 2 false 0, frequency.Absent)
-    ∷ (fields30 2 false 13, frequency.Hz 330382100)
+    let inputs : List (in30.Fields × Option ℕ) =
+    (fields30 4 false 0, None)
+    ∷ (fields30 2 true 0, None)
+    ∷ (fields30 2 false 0, None)
+    ∷ (fields30 2 false 13, Some 330382100)
     ∷ [] in
     by_row (λ x. v30x.decode_of x.0 x.1) inputs (28 ∷ 27 ∷ 3 ∷ 24 ∷ []) refl
 

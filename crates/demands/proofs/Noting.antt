@@ -1,5 +1,6 @@
 -- Calls with ticks, of the machine alone: what one of them notes of one of the eight waits, and what is noted after the end: nothing.
 -- Assumes nothing.
+use Rattle.std.specs.Prelude.{Option, Some}
 use Prim.Native.Nat.{ℕ, suc, ◌≤◌, ◌<◌}
 use mathlib.Core.Path.{◌≡◌, refl, sym, ap, ◌∙◌, subst}
 use mathlib.Core.Bool.{true, false, cond}
@@ -14,8 +15,6 @@ use Rattle.v4x7.specs.declared.Config.{Config}
 use Rattle.startup.specs.Writes.{with_seen}
 use Rattle.startup.specs.Steps.{Op, write, wait, flash, compare, Entry, entry, present, step_after, done_of}
 use Rattle.startup.specs.declared.Report.{Report}
-use Rattle.startup.specs.declared.Phase.{Phase}
-use Rattle.startup.specs.declared.Phase.TheVariants.{Over}
 use Rattle.startup.specs.declared.Stepped.{Stepped}
 use Rattle.startup.specs.Call.{seen_of, going, Event, came_to, event_of}
 use Rattle.ticks.specs.declared.Waits.{Waits}
@@ -28,16 +27,16 @@ use Rattle.place.specs.Place.{leaves_as_it_was}
 use Rattle.place.specs.Laws.{NoneLeaves}
 use Rattle.demands.specs.Runs.{Call}
 use Rattle.demands.specs.Placed.{ticks_of_step}
-use Rattle.demands.proofs.Machine.{machine, in_phase, comes_at}
+use Rattle.demands.proofs.Machine.{machine, going_or_over, comes_at}
 
--- A call with its tick, of any call: of a startup in phase p, and in its own.
+-- A call with its tick, of any call: of a startup whose last report is p, and of its own.
 
-abbrev ticked_in : Phase → Ticked → ℕ → Stepped → Ticked × Report
+abbrev ticked_in : Option Report → Ticked → ℕ → Stepped → Ticked × Report
 ticked_in p t tick x =
     (record { startup = x.startup; ticks = cond (is_over p) t.ticks (after_of t.ticks t.startup.unmet tick x.report) }, x.report)
 
 abbrev pub ticked_to : Ticked → ℕ → Stepped → Ticked × Report
-ticked_to t = ticked_in t.startup.phase t
+ticked_to t = ticked_in t.startup.over t
 
 abbrev pub ticked_by : Call → ticks.Call Ticked
 ticked_by call t h = ticked_to t h.1 (call t.startup h.0)
@@ -143,17 +142,17 @@ module _ (c : Config) (P : List Entry) (M : ℕ) (spot : Spot) where
       (spot.look (runs call y.0 cs).0.ticks.waits ≡ n)) (sym e) ((b, x), z)
 
   -- Over stays over.
-  over_leads : (last : Report) → leaves_as_it_was last ≡ false → (cs : List Handed) (t : Ticked) → t.startup.phase ≡ Over last →
+  over_leads : (last : Report) → leaves_as_it_was last ≡ false → (cs : List Handed) (t : Ticked) → t.startup.over ≡ Some last →
       Leads t cs (spot.look t.ticks.waits)
   unfolding machine
   over_leads last b [] t e = (tt, refl)
   over_leads last b (h ∷ cs) t e =
-      one_call t h cs (t, last) (spot.look t.ticks.waits) (ap (λ (p : Phase). ticked_in p t h.1 (in_phase P L t.startup h.0 p)) e) b
+      one_call t h cs (t, last) (spot.look t.ticks.waits) (ap (λ (p : Option Report). ticked_in p t h.1 (going_or_over P L t.startup h.0 p)) e) b
       (over_leads last b cs t e)
 
   -- A call at step j + 1, which is present, l being the list behind it: it comes to e.
   module _ (j : ℕ) (o : Op) (l : List Entry) (d : drop j P ≡ entry true o ∷ l) (f : Fields) (q u first : ℕ) (w : Waits) (h : Handed)
-      (cs : List Handed) (b : u ≤ 8000001) (e : Event) (g : event_of L (going c f (suc j) q u) h.0 (done_of o f (seen_of h.0)) ≡ e) where
+      (cs : List Handed) (b : u ≤ 8000001) (e : Event) (g : event_of L (going c f (suc j) q u) h.0 (Some (done_of o f (seen_of h.0))) ≡ e) where
     abbrev here : Ticked
     here = at f (suc j) q u first w
 
@@ -168,7 +167,7 @@ module _ (c : Config) (P : List Entry) (M : ℕ) (spot : Spot) where
     abbrev Quiet : Report → Type 0
     Quiet last = (leaves_as_it_was last ≡ false) × ((t : declared.Ticks) (unmet tick : ℕ) → after_of t unmet tick last ≡ t)
 
-    pub ends_at : came.startup.phase ≡ Over came.report → Quiet came.report → Fresh k j (spot.look w) →
+    pub ends_at : came.startup.over ≡ Some came.report → Quiet came.report → Fresh k j (spot.look w) →
         Leads here (h ∷ cs) (summed k j (spot.look w) 0 (ticks_of_step L l (suc (suc j)) [] k))
     ends_at over quiet fresh =
         let n = summed k j (spot.look w) 0 (ticks_of_step L l (suc (suc j)) [] k) in

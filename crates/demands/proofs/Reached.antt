@@ -1,5 +1,6 @@
 -- The bound is reached: a configuration with every part, and the slowest readings.
 -- Assumes nothing.
+use Rattle.std.specs.Prelude.{None, Some}
 use Prim.Native.Nat.{ℕ, suc}
 use mathlib.Core.Path.{◌≡◌, refl, ap, ◌∙◌}
 use mathlib.Core.Bool.{true, false}
@@ -11,9 +12,6 @@ use Rattle.divider.specs.Divide.{ahb_of, ahb_divisor, ahb_divisors, apb_of, apb_
 use Rattle.divider.specs.Frequency.{over}
 use Rattle.tree.specs.Tree.{clocks_of, below_of, bus_of, timer_clock}
 use Rattle.v4x7_rules.specs.Rules.{hse_in_range, used_hse_of, main_pll_input, main_pll_of, eth_pll_of, reference_code_of, two_thirds, sys_pll_of, buses_of, total_of, adc_from_hclk_of, adc_from_usb_hs_of}
-use Rattle.v4x7.specs.declared.Hse.TheVariants as hse
-use Rattle.v4x7.specs.declared.Pll.TheVariants as pll
-use Rattle.v4x7.specs.declared.HsPll.TheVariants as hspll
 use Rattle.v4x7.specs.declared.AdcClockSource.TheVariants as adc
 use Rattle.v4x7.specs.declared.Config.{Config}
 use Rattle.v4x7.specs.declared.ClockRecord.{ClockRecord}
@@ -23,7 +21,6 @@ use Rattle.image.specs.declared.Fields.{Fields}
 use Rattle.image.specs.Image.{in_width, in_widths}
 use Rattle.startup.specs.Steps.{Entry, steps}
 use Rattle.startup.specs.declared.Reading.{Reading}
-use Rattle.startup.specs.declared.Phase.TheVariants.{Going}
 use Rattle.startup.specs.declared.Startup.{Startup}
 use Rattle.demands.specs.Runs.{Readings, run, most_calls}
 use Rattle.demands.specs.Third.{begun, bound, Reached}
@@ -37,13 +34,13 @@ use Rattle.demands.proofs.Third.{same_run, bounds}
 abbrev pub busiest : Config
 busiest =
     record {
-      hse = hse.Present false 25000000;
+      hse = Some (record { bypass = false; freq = 25000000 });
       sys = 2;
       pll_src = 1;
-      pll = pll.Mul 0;
+      pll = Some 0;
       syspll_src = 6;
       syspll_pre = 0;
-      hspll = hspll.From 1;
+      hspll = Some 1;
       ethpll = true;
       ahb_pre = 8;
       apb1_pre = 0;
@@ -100,7 +97,7 @@ most : most_calls 1000000 P ≡ bound busiest
 unfolding ones ones_in
 most = refl
 
-reaches : (rd : Readings) (n : ℕ) → suc n ≡ most_calls 1000000 P → (run (machine P 1000000) n rd (begun busiest clear)).phase ≡ Going → Reached
+reaches : (rd : Readings) (n : ℕ) → suc n ≡ most_calls 1000000 P → (run (machine P 1000000) n rd (begun busiest clear)).over ≡ None → Reached
 reaches rd n e g = (
   busiest,
   promised,
@@ -110,7 +107,7 @@ reaches rd n e g = (
   rd,
   n,
   e ∙ most,
-  ap (λ (s : Startup). s.phase) (same_run busiest accepted n rd (begun busiest clear) (refl, wide clear clear_width)) ∙ g,
+  ap (λ (s : Startup). s.over) (same_run busiest accepted n rd (begun busiest clear) (refl, wide clear clear_width)) ∙ g,
 )
 
 pub reached : Reached

@@ -1,27 +1,25 @@
 -- An accepted configuration's codes, laid into register fields as the startup does, decode to the check's clocks.
 -- Assumes nothing.
+use Rattle.std.specs.Prelude.{Option, None, Some}
 use Rattle.std.specs.Prelude.{◌≡◌, true, ℕ, eqb}
 use Rattle.answer.specs.Answer.{gives}
 use Rattle.divider.specs.declared.Frequency.{Frequency}
 use Rattle.image.specs.declared.Fields.{Fields}
 use Rattle.image.specs.Image.{in_width}
 use Rattle.v4x7_rules.specs.Rules.{reference_code_of}
-use Rattle.v4x7.specs.declared.Pll.{Pll}
-use Rattle.v4x7.specs.declared.Pll.TheVariants as pll
-use Rattle.v4x7.specs.declared.HsPll.{HsPll}
-use Rattle.v4x7.specs.declared.HsPll.TheVariants as hspll
 use Rattle.v4x7.specs.declared.Config.{Config}
-use Rattle.v4x7.specs.Check.{hse_frequency_of, reference_of}
+use Rattle.tree.specs.Tree.{hse_frequency_of}
+use Rattle.v4x7.specs.Check.{reference_of}
 
 -- the main PLL's fields hold its source and multiplier, where it is configured
-abbrev pub PllLaid : Pll → ℕ → Fields → Type 0
-PllLaid pll.Absent source f = Unit {0}
-PllLaid (pll.Mul m) source f = (f.cfgr0.pllsrc ≡ eqb source 1) × (f.cfgr0.pllmul ≡ m)
+abbrev pub PllLaid : Option ℕ → ℕ → Fields → Type 0
+PllLaid None source f = Unit {0}
+PllLaid (Some m) source f = (f.cfgr0.pllsrc ≡ eqb source 1) × (f.cfgr0.pllmul ≡ m)
 
 -- the USBHS PLL's fields hold its source and its reference's code, where it is configured
-abbrev pub HsPllLaid : Config → HsPll → Fields → Type 0
-HsPllLaid c hspll.Absent f = Unit {0}
-HsPllLaid c (hspll.From s) f =
+abbrev pub HsPllLaid : Config → Option ℕ → Fields → Type 0
+HsPllLaid c None f = Unit {0}
+HsPllLaid c (Some s) f =
     (f.cfgr2.usbhspllsrc ≡ s) × ((x : Frequency) → reference_of (hse_frequency_of c.hse) c.ethpll s ≡ gives x → reference_code_of x.hz ≡ gives f.cfgr2.usbhspllclk)
 
 -- the fields in width that hold what the configuration asks for, the chip running from its system clock

@@ -1,12 +1,10 @@
 -- The dividers of document 01, "Modules, leaves first", and of document 02, K4: AHB, APB and FPRE divisors by their codes, and frequencies divided by them.
 -- Assumes nothing.
-use Rattle.std.specs.Prelude.{◌≡◌, refl, List, [], ◌∷◌, ℕ, ◌%◌, leb, get_or}
-use Rattle.answer.specs.Answer.{Answer, gives, refuses, refuse, ◌>>=◌, ◌>>◌, settled_by}
+use Rattle.std.specs.Prelude.{List, [], ◌∷◌, ℕ, ◌%◌, leb, get_or}
+use Rattle.answer.specs.Answer.{Answer, gives, refuse, ◌>>=◌, ◌>>◌}
 use Rattle.divider.specs.declared.Family.{Family}
 use Rattle.divider.specs.declared.Family.TheVariants.{V4x7, V1, V30x, H4}
 use Rattle.divider.specs.declared.Frequency.{Frequency}
-use Rattle.divider.specs.declared.Quotient.{Quotient}
-use Rattle.divider.specs.declared.Quotient.TheVariants as quotient
 use Rattle.divider.specs.Frequency.{over}
 
 -- AHB divisors: codes 0 to 7 give 1; 8 to 15 give 2, 4, 8, 16, 64, 128, 256, 512
@@ -65,21 +63,3 @@ row_of V4x7 = 0
 row_of V1 = 1
 row_of V30x = 2
 row_of H4 = 3
-
--- what a `Quotient` says; two that say the same are equal
-
-abbrev pub quotient_says : Quotient → Answer (ℕ × Frequency)
-quotient_says (quotient.By divisor frequency) = gives (divisor, frequency)
-quotient_says (quotient.Refused n) = refuses n
-
-quotient_of : Answer (ℕ × Frequency) → Quotient
-quotient_of (gives x) = quotient.By x.0 x.1
-quotient_of (refuses n) = quotient.Refused n
-
-quotient_again : (r : Quotient) → quotient_of (quotient_says r) ≡ r
-unfolding quotient_of
-quotient_again (quotient.By divisor frequency) = refl
-quotient_again (quotient.Refused n) = refl
-
-pub quotient_settled : (r s : Quotient) → quotient_says r ≡ quotient_says s → r ≡ s
-quotient_settled = settled_by quotient_says quotient_of quotient_again

@@ -1,15 +1,15 @@
 // The dividers of the four families: a divisor by its code, and a frequency divided by it.
-#![tactic(auto)]
+#![tactic(auto, using(crate::specs::Laws::ahb_given, crate::specs::Laws::apb_given, crate::specs::Laws::fpre_between, crate::specs::Laws::by_apb_quotient, crate::proofs::Shifts::ahb_rule, crate::proofs::Shifts::apb_rule), unfolding(crate::specs::Divide::ahb_of, crate::specs::Divide::apb_of, crate::specs::Divide::by_ahb_of, crate::specs::Divide::apb_quotient_of))]
 
 ghost use Rattle.std.specs.Prelude.{◌≡◌, ◌+◌, ◌<◌, ◌≤◌};
-ghost use Rattle.answer.specs.Said.{reply_says};
-ghost use Rattle.divider.specs.Divide.{row_of, ahb_divisor, apb_divisor, fpre_divisor, ahb_of, apb_of, by_ahb_of, by_apb_of, apb_quotient_of, quotient_says};
-ghost use Rattle.divider.specs.Frequency.{rate_says, rate_number, whole, over};
+ghost use Rattle.answer.specs.Said.{says};
+ghost use Rattle.divider.specs.Divide.{ahb_divisor, apb_divisor, fpre_divisor, ahb_of, apb_of, by_ahb_of, by_apb_of, apb_quotient_of};
+ghost use Rattle.divider.specs.Frequency.{whole, over};
 ghost use Rattle.divider.specs.Laws.{ShiftFor};
 
-use answer::Reply;
+use answer::Refusal;
 
-#[derive(Clone, Copy)]
+#[derive(Clone, Copy, Debug, PartialEq, Eq)]
 pub enum Family {
     V4x7,
     V1,
@@ -18,23 +18,9 @@ pub enum Family {
 }
 
 // A frequency, in whole Hz.
-#[derive(Clone, Copy)]
+#[derive(Clone, Copy, Debug, PartialEq, Eq)]
 pub struct Frequency {
     pub hz: u32,
-}
-
-// A frequency, or a refusal number.
-#[derive(Clone, Copy)]
-pub enum Rate {
-    At(Frequency),
-    Refused(u8),
-}
-
-// The divisor of a code and a frequency divided by it, or a refusal number.
-#[derive(Clone, Copy)]
-pub enum Quotient {
-    By { divisor: u32, frequency: Frequency },
-    Refused(u8),
 }
 
 // A frequency of so many Hz.
@@ -42,16 +28,6 @@ pub fn hertz(hz: u32) -> Frequency
     ensures { result ≡ whole hz }
 {
     Frequency { hz }
-}
-
-// The number of a rate that refuses; 0 of one that doesn't. For `let .. else`, which can't bind it.
-pub fn refusal(rate: Rate) -> u8
-    ensures { result ≡ rate_number rate }
-{
-    match rate {
-        Rate::At(_) => 0,
-        Rate::Refused(n) => n,
-    }
 }
 
 // A row for each family and a column for each code. The rows are equal, and each family keeps its own.
@@ -64,60 +40,50 @@ const AHB_SHIFTS: [[u8; 16]; 4] = [
 
 const FPRE_DIVISORS: [u32; 4] = [1, 2, 4, 4];
 
-fn row_of(family: Family) -> usize
-    ensures { (result ≡ row_of family) × (result < 4) }
-{
-    match family {
-        Family::V4x7 => 0,
-        Family::V1 => 1,
-        Family::V30x => 2,
-        Family::H4 => 3,
-    }
-}
-
 fn ahb_shift(family: Family, code: usize) -> u8
     requires { code < 16 }
     ensures { ShiftFor (ahb_divisor family code) result }
 {
-    let row = AHB_SHIFTS[row_of(family)];
-    row[code]
+    AHB_SHIFTS[family as usize][code]
 }
 
 fn apb_shift(code: u8) -> u8
     requires { code < 8 }
     ensures { ShiftFor (apb_divisor code) result }
 {
-    if code < 4 { 0 } else { code - 3 }
+    code.saturating_sub(3)
 }
 
 // The AHB divisor of a code of four bits.
-pub fn ahb(family: Family, code: u8) -> Reply
-    ensures { reply_says result ≡ ahb_of family code }
+pub fn ahb(family: Family, code: u8) -> Result<u32, Refusal>
+    ensures { says result ≡ ahb_of family code }
 {
     if 16 <= code {
-        return Reply::Refused(answer::CODE_NOT_ALLOWED);
+        return Err(Refusal::CodeNotAllowed);
     }
-    Reply::Is(1u32 << ahb_shift(family, code as usize))
+    Ok(1u32 << ahb_shift(family, usize::from(code)))
 }
 
 // The APB divisor of a code of three bits, in every family.
-pub fn apb(code: u8) -> Reply
-    ensures { reply_says result ≡ apb_of code }
+pub fn apb(code: u8) -> Result<u32, Refusal>
+    ensures { says result ≡ apb_of code }
 {
     if 8 <= code {
-        return Reply::Refused(answer::CODE_NOT_ALLOWED);
+        return Err(Refusal::CodeNotAllowed);
     }
-    Reply::Is(1u32 << apb_shift(code))
+    Ok(1u32 << apb_shift(code))
 }
 
 // The divisor of H4's FPRE: the low two bits of the code alone.
+#[tactic(auto, unfolding(crate::specs::Divide::fpre_divisor))]
 fn fpre(code: u8) -> u32
     ensures { result ≡ fpre_divisor code }
 {
-    FPRE_DIVISORS[(code % 4) as usize]
+    FPRE_DIVISORS[usize::from(code % 4)]
 }
 
 // A frequency by a divisor of this crate, none of which is 0.
+#[tactic(auto, unfolding(crate::specs::Frequency::over))]
 fn divided(from: Frequency, divisor: u32) -> Frequency
     requires { 1 ≤ divisor }
     ensures { result ≡ over from divisor }
@@ -128,39 +94,27 @@ fn divided(from: Frequency, divisor: u32) -> Frequency
 }
 
 // A frequency divided by the AHB divisor of a code.
-pub fn by_ahb(family: Family, from: Frequency, code: u8) -> Rate
-    ensures { rate_says result ≡ by_ahb_of family from code }
+pub fn by_ahb(family: Family, from: Frequency, code: u8) -> Result<Frequency, Refusal>
+    ensures { says result ≡ by_ahb_of family from code }
 {
-    match ahb(family, code) {
-        Reply::Refused(n) => Rate::Refused(n),
-        Reply::Is(d) => Rate::At(divided(from, d)),
-    }
+    let divisor = ahb(family, code)?;
+    Ok(divided(from, divisor))
 }
 
 // The APB divisor of a code, and a frequency divided by it.
-pub fn apb_quotient(from: Frequency, code: u8) -> Quotient
-    ensures { quotient_says result ≡ apb_quotient_of from code }
+pub fn apb_quotient(from: Frequency, code: u8) -> Result<(u32, Frequency), Refusal>
+    ensures { says result ≡ apb_quotient_of from code }
 {
-    match apb(code) {
-        Reply::Refused(n) => Quotient::Refused(n),
-        Reply::Is(d) => Quotient::By {
-            divisor: d,
-            frequency: divided(from, d),
-        },
-    }
+    let divisor = apb(code)?;
+    Ok((divisor, divided(from, divisor)))
 }
 
 // A frequency divided by the APB divisor of a code.
-pub fn by_apb(from: Frequency, code: u8) -> Rate
-    ensures { rate_says result ≡ by_apb_of from code }
+pub fn by_apb(from: Frequency, code: u8) -> Result<Frequency, Refusal>
+    ensures { says result ≡ by_apb_of from code }
 {
-    match apb_quotient(from, code) {
-        Quotient::Refused(n) => Rate::Refused(n),
-        Quotient::By {
-            divisor: _,
-            frequency,
-        } => Rate::At(frequency),
-    }
+    let (_, quotient) = apb_quotient(from, code)?;
+    Ok(quotient)
 }
 
 // A frequency divided by the divisor of H4's FPRE.
@@ -174,5 +128,5 @@ pub fn by_fpre(from: Frequency, code: u8) -> Frequency
 pub fn by_one_more(from: Frequency, n: u8) -> Frequency
     ensures { result ≡ over from (n + 1) }
 {
-    divided(from, (n as u32) + 1)
+    divided(from, u32::from(n) + 1)
 }

@@ -5,7 +5,7 @@ ghost use Rattle.std.specs.Prelude.{◌≡◌};
 ghost use Rattle.fraction.specs.Fraction.{gcd_of, lowest_of};
 
 // A source over a divisor. 0 over 0 says that there is none.
-#[derive(Clone, Copy)]
+#[derive(Clone, Copy, Debug, PartialEq, Eq)]
 pub struct Fraction {
     pub source: u32,
     pub divisor: u32,

@@ -1,32 +1,24 @@
 // CH32H4: AHB, HCLK and PCLK by their codes, the PLL's multipliers, and the clocks of one configuration.
-#![tactic(auto)]
+#![tactic(auto, unfolding(crate::specs::H4::pclk_of, crate::specs::H4::doubled_of, crate::specs::H4::prescaled_of))]
 
 ghost use Rattle.std.specs.Prelude.{◌≡◌};
-ghost use Rattle.answer.specs.Said.{reply_says};
+ghost use Rattle.answer.specs.Said.{says};
 ghost use Rattle.divider.specs.declared.Family.TheVariants.{H4};
 ghost use Rattle.divider.specs.Divide.{fpre_divisor, by_ahb_of};
-ghost use Rattle.divider.specs.Frequency.{rate_says, over};
-ghost use Rattle.tree.specs.Tree.{bus_says};
-ghost use Rattle.h4.specs.H4.{pclk_of, doubled_of, prescaled_of, prescaled_says};
+ghost use Rattle.divider.specs.Frequency.{over};
+ghost use Rattle.h4.specs.H4.{pclk_of, doubled_of, prescaled_of};
 
-use answer::Reply;
-use divider::{Family, Frequency, Rate};
-use tree::{Bus, Buses, Clocks};
+use answer::Refusal;
+use divider::{Family, Frequency};
+use tree::{Clocks, Prescalers};
 
 // The codes of one configuration's prescalers.
-#[derive(Clone, Copy)]
+#[derive(Clone, Copy, Debug, PartialEq, Eq)]
 pub struct Prescale {
     pub hpre: u8,
     pub fpre: u8,
     pub ppre1: u8,
     pub ppre2: u8,
-}
-
-// The AHB clock, which is the V5F core's, and the six clocks; or a refusal number.
-#[derive(Clone, Copy)]
-pub enum Prescaled {
-    Run { ahb: u32, clocks: Clocks },
-    Refused(u8),
 }
 
 // By position in the Rust's list, doubled so that the halves stay whole.
@@ -36,8 +28,8 @@ const PLL_MUL_X2: [u32; 32] = [
 ];
 
 // The AHB clock, after HPRE.
-pub fn ahb_from_sysclk(sysclk: Frequency, hpre: u8) -> Rate
-    ensures { rate_says result ≡ by_ahb_of H4 sysclk hpre }
+pub fn ahb_from_sysclk(sysclk: Frequency, hpre: u8) -> Result<Frequency, Refusal>
+    ensures { says result ≡ by_ahb_of H4 sysclk hpre }
 {
     divider::by_ahb(Family::H4, sysclk, hpre)
 }
@@ -50,39 +42,34 @@ pub fn hclk_from_ahb(ahb: Frequency, fpre: u8) -> Frequency
 }
 
 // A bus: PCLK after PPRE, and its timers' clock, which is PCLK.
-pub fn pclk_from_hclk(hclk: Frequency, ppre: u8) -> Bus
-    ensures { bus_says result ≡ pclk_of hclk ppre }
+pub fn pclk_from_hclk(hclk: Frequency, ppre: u8) -> Result<(Frequency, u32), Refusal>
+    ensures { says result ≡ pclk_of hclk ppre }
 {
-    match divider::by_apb(hclk, ppre) {
-        Rate::Refused(n) => Bus::Refused(n),
-        Rate::At(pclk) => Bus::Run { pclk, tim: pclk.hz },
-    }
+    let pclk = divider::by_apb(hclk, ppre)?;
+    Ok((pclk, pclk.hz))
 }
 
 // The PLL's multiplier at a position, doubled.
-pub fn pll_mul_x2(position: u8) -> Reply
-    ensures { reply_says result ≡ doubled_of position }
+pub fn pll_mul_x2(position: u8) -> Result<u32, Refusal>
+    ensures { says result ≡ doubled_of position }
 {
     if 32 <= position {
-        return Reply::Refused(answer::CODE_NOT_ALLOWED);
+        return Err(Refusal::CodeNotAllowed);
     }
-    Reply::Is(PLL_MUL_X2[position as usize])
+    Ok(PLL_MUL_X2[usize::from(position)])
 }
 
-// The clocks of a SYSCLK and one configuration.
-pub fn clocks_from_sysclk(sysclk: Frequency, prescale: Prescale) -> Prescaled
-    ensures { prescaled_says result ≡ prescaled_of sysclk prescale }
+// The clocks of a SYSCLK and one configuration: the AHB clock, which is the V5F core's, and the six clocks.
+pub fn clocks_from_sysclk(sysclk: Frequency, prescale: Prescale) -> Result<(u32, Clocks), Refusal>
+    ensures { says result ≡ prescaled_of sysclk prescale }
 {
-    let divided = ahb_from_sysclk(sysclk, prescale.hpre);
-    let Rate::At(ahb) = divided else {
-        return Prescaled::Refused(divider::refusal(divided));
-    };
+    let ahb = ahb_from_sysclk(sysclk, prescale.hpre)?;
     let hclk = hclk_from_ahb(ahb, prescale.fpre);
-    match tree::below_hclk(Family::H4, sysclk, hclk, prescale.ppre1, prescale.ppre2) {
-        Buses::Refused(n) => Prescaled::Refused(n),
-        Buses::Run(clocks) => Prescaled::Run {
-            ahb: ahb.hz,
-            clocks,
-        },
-    }
+    let codes = Prescalers {
+        ahb: prescale.hpre,
+        apb1: prescale.ppre1,
+        apb2: prescale.ppre2,
+    };
+    let clocks = tree::below_hclk(Family::H4, sysclk, hclk, codes)?;
+    Ok((ahb.hz, clocks))
 }

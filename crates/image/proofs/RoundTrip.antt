@@ -4,12 +4,12 @@ use Prim.Native.Nat.{ℕ, ◌/◌, ◌%◌, ◌≤◌}
 use mathlib.Core.Path.{◌≡◌, refl, sym, ap, ◌∙◌}
 use mathlib.Core.Bool.{true}
 use mathlib.Core.List.{List, ◌++◌}
+use Rattle.std.specs.Prelude.{Result, Ok}
 use native.Mathlib.Nat.{div-one}
 use borrow.Author.Tests.{eqb-true}
 use lib.ListN.{length, take, drop}
 use Rattle.answer.specs.Answer.{gives}
-use Rattle.answer.specs.declared.Outcome.{Outcome}
-use Rattle.answer.specs.declared.Outcome.TheVariants.{Done}
+use Rattle.answer.specs.declared.Refusal.{Refusal}
 use Rattle.layout.specs.Layout.{unpack, fitting, packed, Bytes}
 use Rattle.layout.specs.Codec.{Inverse}
 use Rattle.layout.specs.Lent.{Wrote}
@@ -50,10 +50,10 @@ unfolding image_bytes
 read_in_width s f b e = (layout.passed 28 (in_width f) (gives (packed 8 widths (list_of f))) s (inverse.write_read s f b e)).0
 
 -- Of the calls: fields written and read again are the same, and bytes read and written again are the same.
-pub read_after_write : (f : Fields) (l l' : List ℕ) → Wrote 8 (image_bytes f) l l' Done → read_image (take 8 l') ≡ gives f
+pub read_after_write : (f : Fields) (l l' : List ℕ) → Wrote 8 (image_bytes f) l l' (Ok tt) → read_image (take 8 l') ≡ gives f
 read_after_write = layout.read_after_write inverse
 
-pub write_after_read : (s : List ℕ) (f : Fields) (l l' : List ℕ) (o : Outcome)
+pub write_after_read : (s : List ℕ) (f : Fields) (l l' : List ℕ) (o : Result (Unit {0}) Refusal)
     → Bytes s → read_image s ≡ gives f → 8 ≤ length l → Wrote 8 (image_bytes f) l l' o
-    → (o ≡ Done) × (l' ≡ s ++ drop 8 l)
+    → (o ≡ Ok tt) × (l' ≡ s ++ drop 8 l)
 write_after_read = layout.write_after_read inverse

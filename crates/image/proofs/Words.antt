@@ -6,7 +6,7 @@ use mathlib.Core.List.{List, [], ◌∷◌, ◌++◌}
 use native.Mathlib.Omega.{arith}
 use lib.ListN.{length, drop}
 use lib.Seq.{sets, sets-eq}
-use Rattle.answer.specs.declared.Outcome.TheVariants.{Done}
+use Rattle.std.specs.Prelude.{Ok}
 use Rattle.layout.specs.Bits.{bit}
 use Rattle.layout.specs.Layout.{pack, unpack, bytes, packed}
 use Rattle.layout.specs.Lent.{Wrote}
@@ -56,7 +56,7 @@ module _ (f : Fields) where
   two_words_lem w = ap (unpack (bytes 8)) whole ∙ halves (early_of f) (late_of f) (late_small w)
 
   pub written : (l l' : List ℕ) (a b : ℕ) → 8 ≤ length l → in_width f ≡ true → a ≡ early_of f → b ≡ late_of f → l' ≡ with_numbers l 0 (a ∷ b ∷ []) →
-      Wrote 8 (image_bytes f) l l' Done
+      Wrote 8 (image_bytes f) l l' (Ok tt)
   unfolding image_bytes
   written l l' a b h w e g p =
       let xs = packed 8 widths (list_of f) in

@@ -1,7 +1,7 @@
 -- The image, 64 bits: 33 fields, register by register, and five zeros. Document 01, "Fields, packed most significant bit first".
 -- Assumes nothing.
-use Rattle.std.specs.Prelude.{ℕ, ◌≡◌, refl, Bool, not, List, [], ◌∷◌, length, get_or, eqb, ltb}
-use Rattle.answer.specs.Answer.{Answer, gives, refuses, refuse, ◌>>◌, settled_by}
+use Rattle.std.specs.Prelude.{ℕ, Bool, not, List, [], ◌∷◌, length, get_or, eqb, ltb}
+use Rattle.answer.specs.Answer.{Answer, gives, refuse, ◌>>◌}
 use Rattle.layout.specs.Layout.{packed}
 use Rattle.layout.specs.Bits.{cut, bit}
 use Rattle.answer.specs.Tests.{every}
@@ -11,8 +11,6 @@ use Rattle.image.specs.declared.Cfgr0.{Cfgr0}
 use Rattle.image.specs.declared.Cfgr2.{Cfgr2}
 use Rattle.image.specs.declared.Flash.{Flash}
 use Rattle.image.specs.declared.Fields.{Fields}
-use Rattle.image.specs.declared.ReadImage.{ReadImage}
-use Rattle.image.specs.declared.ReadImage.TheVariants.{Image, Refused}
 
 -- the widths, in order
 abbrev pub widths : List ℕ
@@ -126,21 +124,3 @@ unfoldable pub image_bytes : Fields → Answer (List ℕ)
 image_bytes f = do
   refuse 28 (not (in_width f))
   gives (packed 8 widths (list_of f))
-
--- a `ReadImage`: its fields, or its refusal
-abbrev pub read_image_says : ReadImage → Answer Fields
-read_image_says (Image f) = gives f
-read_image_says (Refused n) = refuses n
-
--- Nothing is left open: a reading is settled by what it says. (The writer's answer and bytes are settled by `wrote_settled`.)
-said : Answer Fields → ReadImage
-said (gives f) = Image f
-said (refuses n) = Refused n
-
-said_again : (r : ReadImage) → said (read_image_says r) ≡ r
-unfolding said
-said_again (Image f) = refl
-said_again (Refused n) = refl
-
-pub read_settled : (r s : ReadImage) → read_image_says r ≡ read_image_says s → r ≡ s
-read_settled = settled_by read_image_says said said_again

@@ -2,16 +2,17 @@
 #![tactic(auto)]
 
 ghost use Rattle.std.specs.Prelude.{◌≡◌, ◌≤◌, ◌<◌, get_or};
+ghost use Rattle.answer.specs.Said.{says};
 ghost use Rattle.layout.specs.Lent.{Wrote};
-ghost use Rattle.layout.specs.Bits.{cut, bit};
+ghost use Rattle.layout.specs.Bits.{cut};
 ghost use Rattle.image.specs.Words.{ctlr_number, seen_number, cfgr0_early, cfgr0_late, cfgr2_number, flash_number, early_of, late_of};
 ghost use Rattle.image.specs.Width.{Wide};
-ghost use Rattle.image.specs.Image.{widths, ctlr_of, seen_of, cfgr0_of, cfgr2_of, flash_of, fields_of, in_width, read_image_says, read_image, image_bytes};
+ghost use Rattle.image.specs.Image.{widths, ctlr_of, seen_of, cfgr0_of, cfgr2_of, flash_of, fields_of, in_width, read_image, image_bytes};
 
-use answer::Outcome;
+use answer::Refusal;
 
 // CTLR: what switches the oscillators and PLLs on.
-#[derive(Clone, Copy)]
+#[derive(Clone, Copy, Debug, PartialEq, Eq)]
 pub struct Ctlr {
     pub hsion: bool,
     pub hsebyp: bool,
@@ -23,7 +24,7 @@ pub struct Ctlr {
 }
 
 // What only the chip writes, and a reading holds: CTLR's ready bits and CFGR0's SWS.
-#[derive(Clone, Copy)]
+#[derive(Clone, Copy, Debug, PartialEq, Eq)]
 pub struct Seen {
     pub hsirdy: bool,
     pub hserdy: bool,
@@ -33,7 +34,7 @@ pub struct Seen {
     pub sws: u8,
 }
 
-#[derive(Clone, Copy)]
+#[derive(Clone, Copy, Debug, PartialEq, Eq)]
 pub struct Cfgr0 {
     pub sw: u8,
     pub pllsrc: bool,
@@ -46,7 +47,7 @@ pub struct Cfgr0 {
     pub adc_duty: u8,
 }
 
-#[derive(Clone, Copy)]
+#[derive(Clone, Copy, Debug, PartialEq, Eq)]
 pub struct Cfgr2 {
     pub usbhspllsrc: u8,
     pub usbhspllclk: u8,
@@ -57,13 +58,13 @@ pub struct Cfgr2 {
     pub i2spllsrc: bool,
 }
 
-#[derive(Clone, Copy)]
+#[derive(Clone, Copy, Debug, PartialEq, Eq)]
 pub struct Cfgr3 {
     pub adc_clkdiv: u8,
 }
 
 // FLASH CTLR.
-#[derive(Clone, Copy)]
+#[derive(Clone, Copy, Debug, PartialEq, Eq)]
 pub struct Flash {
     pub sckmod: u8,
     pub lock: bool,
@@ -71,7 +72,7 @@ pub struct Flash {
 }
 
 // The 33 fields, register by register, in the image's order.
-#[derive(Clone, Copy)]
+#[derive(Clone, Copy, Debug, PartialEq, Eq)]
 pub struct Fields {
     pub ctlr: Ctlr,
     pub seen: Seen,
@@ -79,13 +80,6 @@ pub struct Fields {
     pub cfgr2: Cfgr2,
     pub cfgr3: Cfgr3,
     pub flash: Flash,
-}
-
-// What reading an image gives: the fields, or a refusal number.
-#[derive(Clone, Copy)]
-pub enum ReadImage {
-    Image(Fields),
-    Refused(u8),
 }
 
 // The fields' widths, in order, and the filling's.
@@ -201,6 +195,7 @@ fn flash_of(s: &[u8]) -> Flash
     }
 }
 
+#[tactic(auto, unfolding(crate::specs::Image::fields_of))]
 fn fields_of(s: &[u8]) -> Fields
     ensures { result ≡ fields_of (cut widths s.now 0) }
 {
@@ -219,19 +214,21 @@ fn fields_of(s: &[u8]) -> Fields
 }
 
 // Reads an image. Refused by 31: not eight bytes, or the filling not zero.
-pub fn read_image(s: &[u8]) -> ReadImage
-    ensures { read_image_says result ≡ read_image s.now }
+#[tactic(auto, unfolding(crate::specs::Image::read_image))]
+pub fn read_image(s: &[u8]) -> Result<Fields, Refusal>
+    ensures { says result ≡ read_image s.now }
 {
     if s.len() != 8 {
-        return ReadImage::Refused(answer::IMAGE_LENGTH_OR_FILLING);
+        return Err(Refusal::ImageLengthOrFilling);
     }
     if field(s, 33) != 0 {
-        return ReadImage::Refused(answer::IMAGE_LENGTH_OR_FILLING);
+        return Err(Refusal::ImageLengthOrFilling);
     }
-    ReadImage::Image(fields_of(s))
+    Ok(fields_of(s))
 }
 
 // Is every code within its field's width? The decoder and the startup ask this too.
+#[tactic(auto, unfolding(crate::specs::Image::in_widths))]
 pub fn in_width(f: Fields) -> bool
     ensures { result ≡ in_width f }
 {
@@ -251,36 +248,29 @@ pub fn in_width(f: Fields) -> bool
         & (f.flash.sckmod < 4)
 }
 
-// A bit as a number.
-fn one(on: bool) -> u32
-    ensures { (result ≡ bit on) × (result ≤ 1) }
-{
-    if on { 1 } else { 0 }
-}
-
 // Each register's fields as one number, in the image's order. Each weight is what its field's width leaves behind it.
 fn ctlr_number(c: Ctlr) -> u32
     ensures { (result ≡ ctlr_number c) × (result < 128) }
 {
-    64 * one(c.hsion)
-        + 32 * one(c.hsebyp)
-        + 16 * one(c.hseon)
-        + 8 * one(c.csson)
-        + 4 * one(c.pllon)
-        + 2 * one(c.usbhs_pllon)
-        + one(c.eth_pllon)
+    64 * u32::from(c.hsion)
+        + 32 * u32::from(c.hsebyp)
+        + 16 * u32::from(c.hseon)
+        + 8 * u32::from(c.csson)
+        + 4 * u32::from(c.pllon)
+        + 2 * u32::from(c.usbhs_pllon)
+        + u32::from(c.eth_pllon)
 }
 
 fn seen_number(s: Seen) -> u32
     requires { s.sws < 4 }
     ensures { (result ≡ seen_number s) × (result < 128) }
 {
-    64 * one(s.hsirdy)
-        + 32 * one(s.hserdy)
-        + 16 * one(s.pllrdy)
-        + 8 * one(s.usbhs_pllrdy)
-        + 4 * one(s.eth_pllrdy)
-        + s.sws as u32
+    64 * u32::from(s.hsirdy)
+        + 32 * u32::from(s.hserdy)
+        + 16 * u32::from(s.pllrdy)
+        + 8 * u32::from(s.usbhs_pllrdy)
+        + 4 * u32::from(s.eth_pllrdy)
+        + u32::from(s.sws)
 }
 
 // CFGR0's fields up to PPRE2, and those behind it.
@@ -288,39 +278,39 @@ fn cfgr0_early(c: Cfgr0) -> u32
     requires { (c.sw < 4) × (c.pllmul < 32) × (c.hpre < 16) × (c.ppre1 < 8) × (c.ppre2 < 8) }
     ensures { (result ≡ cfgr0_early c) × (result < 262144) }
 {
-    65536 * (c.sw as u32)
-        + 32768 * one(c.pllsrc)
-        + 1024 * (c.pllmul as u32)
-        + 64 * (c.hpre as u32)
-        + 8 * (c.ppre1 as u32)
-        + c.ppre2 as u32
+    65536 * u32::from(c.sw)
+        + 32768 * u32::from(c.pllsrc)
+        + 1024 * u32::from(c.pllmul)
+        + 64 * u32::from(c.hpre)
+        + 8 * u32::from(c.ppre1)
+        + u32::from(c.ppre2)
 }
 
 fn cfgr0_late(c: Cfgr0) -> u32
     requires { (c.adcpre < 4) × (c.adc_duty < 4) }
     ensures { (result ≡ cfgr0_late c) × (result < 32) }
 {
-    8 * (c.adcpre as u32) + 4 * one(c.adcsrc) + c.adc_duty as u32
+    8 * u32::from(c.adcpre) + 4 * u32::from(c.adcsrc) + u32::from(c.adc_duty)
 }
 
 fn cfgr2_number(c: Cfgr2) -> u32
     requires { (c.usbhspllsrc < 4) × (c.usbhspllclk < 4) × (c.syspllsrc < 8) × (c.sysplldiv < 8) }
     ensures { (result ≡ cfgr2_number c) × (result < 8192) }
 {
-    2048 * (c.usbhspllsrc as u32)
-        + 512 * (c.usbhspllclk as u32)
-        + 64 * (c.syspllsrc as u32)
-        + 8 * (c.sysplldiv as u32)
-        + 4 * one(c.syspll_gate)
-        + 2 * one(c.rngsrc)
-        + one(c.i2spllsrc)
+    2048 * u32::from(c.usbhspllsrc)
+        + 512 * u32::from(c.usbhspllclk)
+        + 64 * u32::from(c.syspllsrc)
+        + 8 * u32::from(c.sysplldiv)
+        + 4 * u32::from(c.syspll_gate)
+        + 2 * u32::from(c.rngsrc)
+        + u32::from(c.i2spllsrc)
 }
 
 fn flash_number(c: Flash) -> u32
     requires { c.sckmod < 4 }
     ensures { (result ≡ flash_number c) × (result < 16) }
 {
-    4 * (c.sckmod as u32) + 2 * one(c.lock) + one(c.flock)
+    4 * u32::from(c.sckmod) + 2 * u32::from(c.lock) + u32::from(c.flock)
 }
 
 // The image's first four bytes as a number, and its last four.
@@ -335,7 +325,7 @@ fn late(f: Fields) -> u32
     requires { Wide f }
     ensures { result ≡ late_of f }
 {
-    let clkdiv = f.cfgr3.adc_clkdiv as u32;
+    let clkdiv = u32::from(f.cfgr3.adc_clkdiv);
     0x800_0000 * cfgr0_late(f.cfgr0)
         + 0x4000 * cfgr2_number(f.cfgr2)
         + 512 * clkdiv
@@ -343,16 +333,16 @@ fn late(f: Fields) -> u32
 }
 
 // Writes the image into the first eight bytes; those beyond stay. Refused by 32: fewer bytes; then by 28: a code too wide.
-pub fn write_image(f: Fields, out: &mut [u8]) -> Outcome
+pub fn write_image(f: Fields, out: &mut [u8]) -> Result<(), Refusal>
     ensures { Wrote 8 (image_bytes f) out.old out.new result }
 {
     if out.len() < 8 {
-        return Outcome::Refused(answer::OUTPUT_TOO_SHORT);
+        return Err(Refusal::OutputTooShort);
     }
     if !in_width(f) {
-        return Outcome::Refused(answer::CODE_NOT_ALLOWED);
+        return Err(Refusal::CodeNotAllowed);
     }
     let words = [early(f), late(f)];
     layout::put_numbers(out, 0, &words);
-    Outcome::Done
+    Ok(())
 }

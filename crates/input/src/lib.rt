@@ -12,10 +12,7 @@ fn read_some<R: Read>(reader: &mut R, buf: &mut [u8]) -> usize
     ensures in_bounds { result ≤ length buf.new }
     ensures bytes { Consumes (R.remaining reader.old) (R.remaining reader.new) (take result buf.new) }
 {
-    match reader.read(buf) {
-        Ok(n) => n,
-        Err(_) => 0,
-    }
+    reader.read(buf).unwrap_or(0)
 }
 
 // Reads until buf is full or the input ends, and answers how many bytes came into buf, at its start.
@@ -24,6 +21,7 @@ fn read_full<R: Read>(reader: &mut R, buf: &mut [u8]) -> usize
     ensures bytes { Consumes (R.remaining reader.old) (R.remaining reader.new) (take result buf.new) }
 {
     let mut done = 0;
+    // No `for`: a read brings as many bytes as it likes.
     while done < buf.len() {
         let n = read_some(reader, &mut buf[done..]);
         if n == 0 {
@@ -42,11 +40,12 @@ fn read_on<R: Read>(reader: &mut R) -> bool {
 }
 
 // Reads the rest of the input, so that nobody who writes it is cut off. Nothing says that it ends, and a proved loop has to: so the loop
-// counts its turns down, from a number that no run uses up.
+// has a number of turns that no run uses up.
 fn drain<R: Read>(reader: &mut R) {
-    let mut turns = u64::MAX;
-    while turns > 0 && read_on(reader) {
-        turns -= 1;
+    for _ in 0..u64::MAX {
+        if !read_on(reader) {
+            break;
+        }
     }
 }
 

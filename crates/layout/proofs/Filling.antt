@@ -1,14 +1,15 @@
 -- Runs of bytes stored one behind another. Assumes nothing.
-use Prim.Native.Nat.{ℕ, suc, ◌+◌, ◌*◌, ◌<◌, ◌≤◌}
+use Prim.Native.Nat.{ℕ, suc, ◌+◌, ◌-◌, ◌*◌, ◌<◌, ◌≤◌}
 use mathlib.Core.Bool.{Bool, true, false, cond}
 use mathlib.Core.Path.{◌≡◌, refl, sym, ap, ◌∙◌}
-use mathlib.Core.List.{List, [], ◌∷◌, ◌++◌}
+use mathlib.Core.List.{List, [], ◌∷◌, ◌++◌, append_assoc}
 use native.Mathlib.Nat.{add-zero, suc-add, add-suc}
 use native.Mathlib.Omega.{arith}
 use borrow.Author.Tests.{le-ltb}
 use lib.Dec.{ltb}
-use lib.ListN.{length, set, get_or, drop}
-use lib.Seq.{sets, length-sets, drop-cons}
+use lib.ListN.{length, set, get_or, take, drop}
+use borrow.Rule.Slice.PartMut.{put_mid, Post-is}
+use lib.Seq.{sets, sets-eq, length-sets, drop-cons}
 use Rattle.layout.specs.Layout.{unpack, bytes}
 use Rattle.layout.specs.Numbers.{in_fours, with_numbers}
 
@@ -18,6 +19,13 @@ sets_append l at [] ys = rw add-zero
 sets_append l at (x ∷ xs) ys =
     sets_append (set l at x) (suc at) xs ys
     ∙ ap (λ (n : ℕ). sets (sets (set l at x) (suc at) xs) n ys) (suc-add at (length xs) ∙ sym (add-suc at (length xs)))
+
+-- a run copied over a part of the bytes
+pub part_put : (l ys zs : List ℕ) (at k : ℕ) → at + k ≤ length l → length zs ≡ k → ys ≡ zs → put_mid at (at + k - at) l ys ≡ sets l at zs
+part_put l ys zs at k h n e =
+    let e2 : sets l at zs ≡ take at l ++ zs ++ drop (at + k) l = sets-eq zs l at (omega arith) ∙ ap (λ (m : ℕ). take at l ++ zs ++ drop (at + m) l) n in
+    let f : sets l at zs ≡ take at l ++ (zs ++ drop (at + k) l) = e2 ∙ append_assoc (take at l) zs (drop (at + k) l) in
+    rw (Post-is at (at + k) l (omega arith), e) (sym f)
 
 -- the numbers from i on are still to be stored
 pub number_stored : (out g xs : List ℕ) (at i : ℕ) → i < length xs → sets out (at + 4 * i) (in_fours (drop i xs)) ≡ g →

@@ -2,25 +2,17 @@
 use mathlib.Core.Path.{◌≡◌, refl, sym, ap, ap₂, ◌∙◌}
 use mathlib.Core.List.{List, [], ◌∷◌, ◌++◌}
 use Prim.Native.Nat.{ℕ, ◌+◌, ◌*◌, ◌/◌, ◌%◌, ◌^◌, ◌-◌, ◌≤◌, ◌<◌}
-use native.Mathlib.Nat.{add-mul, mul_assoc, mod-lt, mul-le-mul}
+use native.Mathlib.Nat.{add-mul, mul_assoc, mod-lt}
 use native.Mathlib.Numerals.{add-one}
 use native.Mathlib.Omega.{arith}
 use lib.ListN.{length, take, drop, set, length-set}
 use lib.Seq.{take-suc-set, drop-set-lt, drop-drop}
-use lib.Pow.{pow-add, pow_pos, pow_mono, shr_lt, split}
+use lib.Pow.{pow-add, pow_pos, shr_lt, split}
 use lib.Arith.{digits_lt}
 use Rattle.layout.specs.Layout.{num}
 use Rattle.layout.specs.Gathered.{Fits, Gathers}
 use Rattle.layout.specs.declared.Pending.{Pending}
 use Rattle.layout.proofs.Laws.{num_snoc, bytes_snoc}
-
--- at most seven bits, and at most eight more
-pub sum_fits : (v c w x p : ℕ) → v < 2 ^ c → c < 8 → p ≡ 2 ^ w → w ≤ 8 → x < 256 → v * p + x < 65536
-sum_fits v c w x p hv hc e hw hx =
-    let a : 2 ^ c ≤ 2 ^ 7 = pow_mono {i = c} {j = 7} (omega arith) in
-    let b : 2 ^ w ≤ 2 ^ 8 = pow_mono {i = w} {j = 8} hw in
-    let m : v * p ≤ 128 * 256 = (let hv' : v ≤ 128 = omega arith in let hp : p ≤ 256 = omega arith in mul-le-mul hv' hp) in
-    omega arith
 
 -- the bits so far and the field, as one number
 joined : (n v c w x : ℕ) → n * 2 ^ (c + w) + (v * 2 ^ w + x) ≡ (n * 2 ^ c + v) * 2 ^ w + x

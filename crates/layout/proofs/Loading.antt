@@ -1,5 +1,5 @@
 -- The fields of a layout loaded one after another. Assumes nothing.
-use Prim.Native.Nat.{ℕ, zero, suc, ◌+◌, ◌*◌, ◌≤◌, ◌<◌, zero-le}
+use Prim.Native.Nat.{ℕ, zero, suc, ◌+◌, ◌*◌, ◌≤◌, ◌<◌}
 use mathlib.Core.Path.{◌≡◌, refl, sym, ap, ap₂, ◌∙◌}
 use mathlib.Core.List.{List, [], ◌∷◌, ◌++◌}
 use native.Mathlib.Numerals.{add-one}
@@ -51,9 +51,6 @@ pub record Loading (ws s was out : List ℕ) (n at i : ℕ) : Type 0 where
   pub beyond : drop i out ≡ drop i was
   pub place : at ≡ total (narrowed (take i ws))
   pub near : at ≤ 8 * i
-
-pub none_loaded : (ws s was : List ℕ) (n : ℕ) → Loading ws s was was n 0 0
-none_loaded ws s was n = record { within = zero-le; long = refl; front = refl; beyond = refl; place = refl; near = zero-le }
 
 module _ (ws s was out : List ℕ) (n at i x : ℕ) (c : Loading ws s was out n at i) (h : i < n) (k : i < length ws) (o : i < length out)
     (e : x ≡ bits_at s at (up_to 8 (get_or ws i 0))) (u : up_to 8 (get_or ws i 0) ≤ 8) where

@@ -3,11 +3,11 @@
 use mathlib.Core.Path.{◌≡◌, refl, sym, ap, ap₂, ◌∙◌}
 use mathlib.Core.Bool.{Bool, true, false, cond}
 use mathlib.Core.List.{List, [], ◌∷◌}
-use Prim.Native.Nat.{ℕ, zero, suc, ◌+◌, ◌-◌, ◌*◌, ◌/◌, ◌%◌, ◌^◌, ◌≤◌, ◌<◌}
-use native.Mathlib.Nat.{le_refl, le_antisymm, mod-one, mod-eq_of_lt, pow-suc, mul_assoc, mul-add-div_right, mul-add-mod_self_right}
+use Prim.Native.Nat.{ℕ, zero, suc, ◌+◌, ◌-◌, ◌*◌, ◌/◌, ◌%◌, ◌^◌, ◌≤◌, ◌<◌, min}
+use native.Mathlib.Nat.{le_antisymm, mod-one, mod-eq_of_lt, pow-suc, mul_assoc, mul-add-div_right, mul-add-mod_self_right}
 use native.Mathlib.Numerals.{add-one}
 use native.Mathlib.Omega.{arith}
-use borrow.Author.Tests.{ltb-false, lt-ltb}
+use borrow.Author.Tests.{ltb-true, ltb-false, lt-ltb}
 use lib.ListN.{length, get_or, length-replicate}
 use lib.Dec.{ltb, eqb}
 use lib.Pow.{pow_pos, pow-add, shl-shr, shr-shr, shr_mod, mod-pow-add}
@@ -35,26 +35,20 @@ bit_below (suc (suc n)) h = let z : ⊥ = omega arith in absurd z
 pub bit_of_flag : (x : ℕ) → bit (eqb (x % 2) 1) ≡ x % 2
 bit_of_flag x = bit_below (x % 2) (omega arith)
 
-below : (limit n : ℕ) (b : Bool) → ltb n limit ≡ b → cond b n limit ≤ n
-below limit n true e = le_refl n
-below limit n false e = ltb-false n limit e
-
-pub up_to_below : (limit n : ℕ) → up_to limit n ≤ n
-up_to_below limit n = below limit n (ltb n limit) refl
-
-above : (limit n k : ℕ) (b : Bool) → ltb n limit ≡ b → cond b n limit ≤ k → k < limit → n ≤ k
-above limit n k true e h l = h
-above limit n k false e h l = absurd (omega arith)
-
-pub up_to_above : (limit n k : ℕ) → up_to limit n ≤ k → k < limit → n ≤ k
-up_to_above limit n k = above limit n k (ltb n limit) refl
-
 all : (limit n : ℕ) → n ≤ limit → (b : Bool) → ltb n limit ≡ b → cond b n limit ≡ n
 all limit n h true e = refl
 all limit n h false e = le_antisymm (ltb-false n limit e) h
 
 pub up_to_all : (limit n : ℕ) → n ≤ limit → up_to limit n ≡ n
 up_to_all limit n h = all limit n h (ltb n limit) refl
+
+-- what the code takes
+min_of : (limit n : ℕ) (b : Bool) → ltb n limit ≡ b → min n limit ≡ cond b n limit
+min_of limit n true e = omega (arith, ltb-true n limit e)
+min_of limit n false e = omega (arith, ltb-false n limit e)
+
+pub up_to_min : (limit n : ℕ) → min n limit ≡ up_to limit n
+up_to_min limit n = min_of limit n (ltb n limit) refl
 
 -- n bits spell a number below 2 ^ n
 pub bits_lt : (s : List ℕ) (at n : ℕ) → bits_at s at n < 2 ^ n

@@ -4,15 +4,15 @@ use Prim.Native.Nat.{ℕ, ◌*◌, ◌≤◌}
 use mathlib.Core.Path.{◌≡◌, refl, sym, ap, ◌∙◌}
 use mathlib.Core.Bool.{Bool, true, false, not}
 use mathlib.Core.List.{List, ◌++◌}
+use Rattle.std.specs.Prelude.{Result, Ok}
 use native.Mathlib.Omega.{arith}
 use borrow.Author.Tests.{eq-eqb, eqb-true}
 use lib.ListN.{length, take, drop}
 use lib.Seq.{take_at}
 use lib.Dec.{eqb, ltb}
 use Rattle.answer.specs.Answer.{Answer, gives, refuses, refuse, ◌>>=◌, ◌>>◌}
-use Rattle.answer.specs.Said.{outcome_says}
-use Rattle.answer.specs.declared.Outcome.{Outcome}
-use Rattle.answer.specs.declared.Outcome.TheVariants.{Done}
+use Rattle.answer.specs.Said.{says}
+use Rattle.answer.specs.declared.Refusal.{Refusal}
 use Rattle.layout.specs.Layout.{total, unpack, fitting, num, Bytes, packed}
 use Rattle.layout.specs.Bits.{cut}
 use Rattle.layout.specs.Codec.{Inverse}
@@ -90,14 +90,14 @@ module _ {A : Type 0} (n : ℕ) (ws : List ℕ) (whole : total ws ≡ 8 * n)
 -- an accepted write had bytes to write, and wrote them
 accepted : (l l' d : List ℕ) (t : Bool) (m : Answer (List ℕ))
     → let w : Answer (List ℕ) = ◌>>◌ (refuse 32 t) (◌>>=◌ m (λ b. gives (b ++ d))) in
-    outcome_says Done ≡ ◌>>◌ w (gives tt) → l' ≡ after l w → (b : List ℕ) × ((m ≡ gives b) × (l' ≡ b ++ d))
+    says {A = Unit {0}} (Ok tt) ≡ ◌>>◌ w (gives tt) → l' ≡ after l w → (b : List ℕ) × ((m ≡ gives b) × (l' ≡ b ++ d))
 accepted l l' d false (gives b) e k = (b, (refl, k))
 accepted l l' d false (refuses n) e k = let z : ◌≡◌ {A = ℕ} 0 1 = cc in absurd (omega arith)
 accepted l l' d true m e k = let z : ◌≡◌ {A = ℕ} 0 1 = cc in absurd (omega arith)
 
 module _ {A : Type 0} {n : ℕ} {read : List ℕ → Answer A} {write : A → Answer (List ℕ)} (inv : Inverse n read write) where
   -- what was written, read again, is what was handed over
-  pub read_after_write : (a : A) (l l' : List ℕ) → Wrote n (write a) l l' Done → read (take n l') ≡ gives a
+  pub read_after_write : (a : A) (l l' : List ℕ) → Wrote n (write a) l l' (Ok tt) → read (take n l') ≡ gives a
   read_after_write a l l' w =
       let x = accepted l l' (drop n l) (ltb (length l) n) (write a) w.answer w.bytes in
       let e = x.1.0 in
@@ -105,6 +105,6 @@ module _ {A : Type 0} {n : ℕ} {read : List ℕ → Answer A} {write : A → An
       ap read t ∙ inv.read_write a x.0 e
 
   -- what was read is accepted by the writer, which gives its bytes again
-  pub write_after_read : (s : List ℕ) (a : A) (l l' : List ℕ) (r : Outcome) → Bytes s → read s ≡ gives a → n ≤ length l → Wrote n (write a) l l' r
-      → (r ≡ Done) × (l' ≡ s ++ drop n l)
+  pub write_after_read : (s : List ℕ) (a : A) (l l' : List ℕ) (r : Result (Unit {0}) Refusal) → Bytes s → read s ≡ gives a → n ≤ length l → Wrote n (write a) l l' r
+      → (r ≡ Ok tt) × (l' ≡ s ++ drop n l)
   write_after_read s a l l' r b e h w = wrote_settled w (written_to n (write a) l s h (inv.write_read s a b e))

@@ -1,5 +1,5 @@
 -- The theorems on what specs/Laws.antt defines. Assumes nothing.
-use Rattle.std.specs.Prelude.{ℕ, ◌≡◌, ◌⊎◌, Bool, true, false, cond, not, ◌||◌, List, [], ◌∷◌}
+use Rattle.std.specs.Prelude.{ℕ, ◌≡◌, ◌⊎◌, Bool, true, false, cond, not, ◌||◌, Option, None, Some, List, [], ◌∷◌}
 use Rattle.std.proofs.Math.Path.{refl}
 use Rattle.std.proofs.Common.{sym, ap, ◌∙◌, inl, inr, ⊎_elim}
 use Rattle.answer.specs.Tools.{false_true, by_cond}
@@ -15,8 +15,6 @@ use Rattle.startup.specs.declared.steps.Work.TheVariants.{Compares}
 use Rattle.startup.specs.declared.Reading.{Reading}
 use Rattle.startup.specs.declared.Report.{Report}
 use Rattle.startup.specs.declared.Report.TheVariants.{Failed, Refused}
-use Rattle.startup.specs.declared.Phase.{Phase}
-use Rattle.startup.specs.declared.Phase.TheVariants.{Going, Over}
 use Rattle.startup.specs.declared.Startup.{Startup}
 use Rattle.startup.specs.declared.Stepped.{Stepped}
 use Rattle.startup.specs.Steps.{write, wait, flash, compare, Entry, entry, listed_of, next_of, work_in, work_of, from, steps}
@@ -36,46 +34,46 @@ pub refused_stays : (t : Ticked) (r : Reading) (tick : ℕ) {n : ℕ} → (stepp
 unfolding stepped_in
 refused_stays t r tick e = rw e
 
-failed_phase : (bad : Bool) (check : Answer ClockRecord) (s : Startup) (r : Reading) (p : Phase) → s.phase ≡ p → {n step used : ℕ} →
-    let x = cond bad (handed_back s) (step_by check s r p) in x.report ≡ Failed n step used → x.startup.phase ≡ Over (Failed n step used)
-failed_phase true check s r p q e = cc
-failed_phase false check s r (Over last) q e = q ∙ ap Over e
-failed_phase false (refuses n) s r Going q e = cc
-failed_phase false (gives x) s r Going q e = by_event (comes_to x.clocks s r) e
+failed_over : (bad : Bool) (check : Answer ClockRecord) (s : Startup) (r : Reading) (p : Option Report) → s.over ≡ p → {n step used : ℕ} →
+    let x = cond bad (handed_back s) (step_by check s r p) in x.report ≡ Failed n step used → x.startup.over ≡ Some (Failed n step used)
+failed_over true check s r p q e = cc
+failed_over false check s r (Some last) q e = q ∙ ap Some e
+failed_over false (refuses n) s r None q e = cc
+failed_over false (gives x) s r None q e = by_event (comes_to x.clocks s r) e
   where
     by_event : (v : Event) {n step used : ℕ} → let y = came_to (next_of s.config s.step) s (seeing s r) v in
-        y.report ≡ Failed n step used → y.startup.phase ≡ Over (Failed n step used)
+        y.report ≡ Failed n step used → y.startup.over ≡ Some (Failed n step used)
     by_event back e = cc
     by_event (wrote g) e = cc
     by_event met e = cc
     by_event waiting e = cc
-    by_event missed e = ap Over e
-    by_event misread e = ap Over e
+    by_event missed e = ap Some e
+    by_event misread e = ap Some e
     by_event (compared true) e = cc
     by_event (compared false) e = cc
 
 pub failed_ends : (t : Ticked) (r : Reading) (tick : ℕ) {n step used : ℕ} → (stepped_in t r tick).report ≡ Failed n step used →
-    ((stepped_in t r tick).place ≡ (ticked_of t r tick).ticked) × ((stepped_in t r tick).place.startup.phase ≡ Over (Failed n step used))
+    ((stepped_in t r tick).place ≡ (ticked_of t r tick).ticked) × ((stepped_in t r tick).place.startup.over ≡ Some (Failed n step used))
 unfolding stepped_in ticked_of step_of
 failed_ends t r tick e =
     let s = t.startup in
     let bad = not (named_of s.config) || not (in_width s.fields) in
     let place : (stepped_in t r tick).place ≡ (ticked_of t r tick).ticked = rw e in
-    (place, ap (λ (u : Ticked). u.startup.phase) place ∙ failed_phase bad (check_of s.config) s r s.phase refl e)
+    (place, ap (λ (u : Ticked). u.startup.over) place ∙ failed_over bad (check_of s.config) s r s.over refl e)
 
 pub start_refused : (t : Ticked) (n : ℕ) → ((started_in t (refuses n)).place ≡ t) × ((started_in t (refuses n)).number ≡ n)
 start_refused t n = (refl, refl)
 
 -- A call that compares does so whatever the reading is.
 
-compares_any : (l : List Entry) (f : Fields) (a b : Seen) {same : Bool} → work_in l f a ≡ Compares same → work_in l f b ≡ Compares same
+compares_any : (l : List Entry) (f : Fields) (a b : Seen) {same : Bool} → work_in l f a ≡ Some (Compares same) → work_in l f b ≡ Some (Compares same)
 compares_any [] f a b e = e
 compares_any (entry o (write w) ∷ l) f a b e = e
 compares_any (entry o (wait p) ∷ l) f a b e = cc
 compares_any (entry o (flash m) ∷ l) f a b e = e
 compares_any (entry o (compare t) ∷ l) f a b e = e
 
-says : {limit : ℕ} {s : Startup} {listed same : Bool} {w : Work} {e : Event} → View limit s listed w e → e ≡ compared same → w ≡ Compares same
+says : {limit : ℕ} {s : Startup} {listed same : Bool} {w : Option Work} {e : Event} → View limit s listed w e → e ≡ compared same → w ≡ Some (Compares same)
 says (off t) e = cc
 says none e = cc
 says (spent t) e = cc
@@ -115,13 +113,13 @@ module _ (s : Startup) where
   abbrev bad_code : Bool
   bad_code = not (named_of s.config) || not (in_width s.fields)
 
-  module _ (code : bad_code ≡ false) (phase : s.phase ≡ Going) {x : ClockRecord} (check : check_of s.config ≡ gives x) where
+  module _ (code : bad_code ≡ false) (going : s.over ≡ None) {x : ClockRecord} (check : check_of s.config ≡ gives x) where
     abbrev comes : Reading → Event → Stepped
     comes r e = came_to (next_of s.config s.step) s (seeing s r) e
 
     calls : (r : Reading) → step_of s r ≡ comes r (comes_to x.clocks s r)
     unfolding step_of
-    calls r = rw (code, phase, check)
+    calls r = rw (code, going, check)
 
     -- once over with 23, it repeats 23
     repeats : (r r' : Reading) → step_of (comes r (compared false)).startup r' ≡ comes r (compared false)
@@ -136,15 +134,15 @@ module _ (s : Startup) where
         (leaving (next_of s.config s.step) s (seeing s r) (comes_to x.clocks s r) h)
 
   again_by : (r : Reading) (test : Bool) → bad_code ≡ test → (check : Answer ClockRecord) → check_of s.config ≡ check →
-      (p : Phase) → s.phase ≡ p → Again s (cond test (handed_back s) (step_by check s r p))
+      (p : Option Report) → s.over ≡ p → Again s (cond test (handed_back s) (step_by check s r p))
   again_by r true code check c p ph h r' = refl
-  again_by r false code (refuses n) c Going ph h r' = refl
-  again_by r false code (gives x) c Going ph h r' = going_again code ph c r h r'
-  again_by r false code check c (Over last) ph h r' = refl
+  again_by r false code (refuses n) c None ph h r' = refl
+  again_by r false code (gives x) c None ph h r' = going_again code ph c r h r'
+  again_by r false code check c (Some last) ph h r' = refl
 
   pub again : (r : Reading) → Again s (step_of s r)
   unfolding step_of
-  again r = again_by r bad_code refl (check_of s.config) refl s.phase refl
+  again r = again_by r bad_code refl (check_of s.config) refl s.over refl
 
 -- The answers in the place are the answers by value, of any place and any calls.
 
@@ -175,19 +173,19 @@ same_place t (h ∷ l) n =
 
 -- A startup that is over stays in its place as it is, and its ticks too, whatever its last report is; also where a code is bad (28).
 
--- what a call that comes to x leaves, of a startup in phase p
-abbrev left_by : Ticked → ℕ → Phase → Stepped → Ticked
+-- what a call that comes to x leaves, of a startup with the last report p, or none
+abbrev left_by : Ticked → ℕ → Option Report → Stepped → Ticked
 left_by t tick p x =
     let ticks = cond (is_over p) t.ticks (after_of t.ticks t.startup.unmet tick x.report) in
     cond (leaves_as_it_was x.report) t (record { startup = x.startup; ticks = ticks })
 
 last_left : (t : Ticked) (tick : ℕ) (last : Report) (bad : Bool) →
-    left_by t tick (Over last) (cond bad (handed_back t.startup) (record { startup = t.startup; report = last })) ≡ t
+    left_by t tick (Some last) (cond bad (handed_back t.startup) (record { startup = t.startup; report = last })) ≡ t
 last_left t tick last true = refl
 last_left t tick last false = by_cond (λ (x : Ticked). x ≡ t) (leaves_as_it_was last) t t (λ e. refl) (λ e. refl)
 
-pub over_stays : (t : Ticked) (last : Report) → t.startup.phase ≡ Over last → (r : Reading) (tick : ℕ) → (stepped_in t r tick).place ≡ t
+pub over_stays : (t : Ticked) (last : Report) → t.startup.over ≡ Some last → (r : Reading) (tick : ℕ) → (stepped_in t r tick).place ≡ t
 unfolding stepped_in ticked_of step_of
 over_stays t last e r tick =
     let s = t.startup in
-    ap (λ (p : Phase). left_by t tick p (cond (bad_code s) (handed_back s) (step_by (check_of s.config) s r p))) e ∙ last_left t tick last (bad_code s)
+    ap (λ (p : Option Report). left_by t tick p (cond (bad_code s) (handed_back s) (step_by (check_of s.config) s r p))) e ∙ last_left t tick last (bad_code s)

@@ -9,8 +9,16 @@ use Rattle.startup.specs.declared.Report.TheVariants.{Worked, Waiting, Running, 
 use Rattle.startup.specs.declared.Startup.{Startup}
 use Rattle.ticks.specs.declared.Ticked.{Ticked}
 use Rattle.ticks.specs.Ticks.{begun_with, ticked_of}
-use Rattle.place.specs.declared.Stepping.{Stepping}
-use Rattle.place.specs.declared.Starting.{Starting}
+
+-- What a call leaves in the place, and what it answers.
+pub record Stepping : Type 0 where
+  pub place : Ticked
+  pub report : Report
+
+-- What starting leaves in the place, and its number: 0, or the refusal's.
+pub record Starting : Type 0 where
+  pub place : Ticked
+  pub number : ℕ
 
 -- The reports with which a call leaves the place as it was: 23 and 28. 21 and 22 end the startup (`Failed`).
 abbrev pub leaves_as_it_was : Report → Bool

@@ -1,38 +1,19 @@
--- Laws of the shared PLL: nothing is left open, the USB clock is 48 MHz, and a decoder given what a check took gives the check's clocks.
+-- Laws of the shared PLL: the USB clock is 48 MHz, and a decoder given what a check took gives the check's clocks.
 -- Assumes nothing.
-use Rattle.std.specs.Prelude.{◌≡◌, Bool, true, false, cond, List, [], ◌∷◌, ℕ, ◌+◌, ◌*◌, ◌/◌, ◌<◌, ◌≤◌, eqb, leb, ltb}
+use Rattle.std.specs.Prelude.{◌≡◌, Bool, true, false, cond, Option, None, Some, List, [], ◌∷◌, ℕ, ◌+◌, ◌*◌, ◌/◌, ◌<◌, ◌≤◌, eqb, leb, ltb}
 use Rattle.std.proofs.Math.Path.{refl}
 use Rattle.std.proofs.Common.{◌∙◌, ap, subst, arith, div-le_self, le_trans, mul-le-mul_left, mul-le-mul_right, eqb-true, le-ltb, leb→le, lit≤}
-use Rattle.answer.specs.Answer.{Answer, gives, refuses, refuse, ◌>>◌, settled_by, bound, passed, same_given, refuses_gives}
+use Rattle.answer.specs.Answer.{Answer, gives, refuse, ◌>>◌, bound, passed, same_given, refuses_gives}
 use Rattle.divider.specs.declared.Frequency.{Frequency}
 use Rattle.divider.specs.Frequency.{whole}
 use Rattle.divider.specs.Table.{at}
 use Rattle.tree.specs.Tree.{clocks_of}
 use Rattle.pll32.specs.declared.Part.{Part}
 use Rattle.pll32.specs.declared.Part.TheVariants.{V1, L1, V30x}
-use Rattle.tree.specs.declared.HseFrequency.{HseFrequency}
 use Rattle.pll32.specs.declared.Setting.{Setting}
-use Rattle.tree.specs.declared.Output.{Output}
-use Rattle.tree.specs.declared.Output.TheVariants as pll
 use Rattle.pll32.specs.declared.ClockRecord.{ClockRecord}
-use Rattle.pll32.specs.declared.Checked.{Checked}
-use Rattle.pll32.specs.declared.Checked.TheVariants as checked
 use Rattle.pll32.specs.Answers.{Given}
-use Rattle.pll32.specs.Pll.{checked_says, factor, too_wide, wide_setting, family_of, needed_hse_of, pll_output_of, pll_as_sysclk_of, sysclk_of, usb_divisor, configured_clocks_of, decoded_sysclk_of, decoded_clocks_of}
-
--- Nothing is left open: two results that a promise allows are equal.
-
-checked_of : Answer ClockRecord → Checked
-checked_of (gives x) = checked.Accepted x
-checked_of (refuses n) = checked.Refused n
-
-checked_again : (r : Checked) → checked_of (checked_says r) ≡ r
-unfolding checked_of
-checked_again (checked.Accepted x) = refl
-checked_again (checked.Refused n) = refl
-
-pub checked_settled : (r s : Checked) → checked_says r ≡ checked_says s → r ≡ s
-checked_settled = settled_by checked_says checked_of checked_again
+use Rattle.pll32.specs.Pll.{factor, too_wide, wide_setting, family_of, needed_hse_of, pll_output_of, pll_as_sysclk_of, sysclk_of, usb_divisor, configured_clocks_of, decoded_sysclk_of, decoded_clocks_of}
 
 -- The USB clock: where there is a divisor, it makes 48 MHz of the PLL's output.
 
@@ -82,17 +63,17 @@ hsi_fits part n c h =
 -- The end of a check and the end of a decoder.
 
 -- the setting s gives a decoder what the check has as the PLL's output
-pub record Reads (part : Part) (hse : HseFrequency) (out : Output) (s : Setting) : Type 0 where
+pub record Reads (part : Part) (hse : Option ℕ) (out : Option Frequency) (s : Setting) : Type 0 where
   pub fits : wide_setting s.prediv s.mul ≡ false
   pub same : (x : Frequency) → pll_as_sysclk_of out ≡ gives x → pll_output_of part hse s ≡ gives x
 
 -- any setting where no PLL is configured, since the check does not choose it
-pub reads_absent : (part : Part) (hse : HseFrequency) (s : Setting) → wide_setting s.prediv s.mul ≡ false → Reads part hse pll.Absent s
+pub reads_absent : (part : Part) (hse : Option ℕ) (s : Setting) → wide_setting s.prediv s.mul ≡ false → Reads part hse None s
 reads_absent part hse s fits =
     record { fits = fits; same = λ x e. refuses_gives e }
 
-pub reads_hz : (part : Part) (hse : HseFrequency) (s : Setting) {x : Frequency} → pll_output_of part hse s ≡ gives x →
-    Reads part hse (pll.At x) s
+pub reads_hz : (part : Part) (hse : Option ℕ) (s : Setting) {x : Frequency} → pll_output_of part hse s ≡ gives x →
+    Reads part hse (Some x) s
 unfolding pll_output_of
 reads_hz part hse s e = record { fits = (passed 28 (wide_setting s.prediv s.mul) _ e).failed; same = λ x q. e ∙ q }
 
@@ -105,7 +86,7 @@ picks three false true hse checks reads same x e = same x (passed 20 three check
 picks three false false hse checks reads same x e = (passed 20 three (gives (whole 8000000)) e).after
 
 -- then a decoder given the check's codes gives its clocks
-pub read_back : (part : Part) (hse : HseFrequency) (out : Output) (s : Setting) (sys ahb apb1 apb2 : ℕ) {x : ClockRecord} →
+pub read_back : (part : Part) (hse : Option ℕ) (out : Option Frequency) (s : Setting) (sys ahb apb1 apb2 : ℕ) {x : ClockRecord} →
     Reads part hse out s → configured_clocks_of part hse out sys ahb apb1 apb2 ≡ gives x →
     decoded_clocks_of part hse s sys ahb apb1 apb2 ≡ gives x.clocks
 unfolding configured_clocks_of sysclk_of decoded_clocks_of decoded_sysclk_of
@@ -120,7 +101,7 @@ read_back part hse out s sys ahb apb1 apb2 {x} reads e =
     rw (reads.fits, wide.failed, chosen, buses.gave, clocks)
 
 -- a check whose system clock is the PLL has its output
-pub pll_chosen : (part : Part) (hse : HseFrequency) (out : Output) (sys ahb apb1 apb2 : ℕ) {x : ClockRecord} →
+pub pll_chosen : (part : Part) (hse : Option ℕ) (out : Option Frequency) (sys ahb apb1 apb2 : ℕ) {x : ClockRecord} →
     configured_clocks_of part hse out sys ahb apb1 apb2 ≡ gives x → sys ≡ 2 → Given (pll_as_sysclk_of out)
 unfolding configured_clocks_of sysclk_of
 pll_chosen part hse out sys ahb apb1 apb2 e two =

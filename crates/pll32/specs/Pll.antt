@@ -1,6 +1,6 @@
 -- What CH32V1, CH32L1 and CH32V30x share of document 01, "V1 and V30x": the PLL's product, the system clock, the USB divisor.
 -- Assumes nothing.
-use Rattle.std.specs.Prelude.{Bool, true, false, cond, ◌||◌, ℕ, ◌+◌, ◌*◌, eqb, leb, ltb}
+use Rattle.std.specs.Prelude.{Bool, true, false, cond, ◌||◌, Option, None, Some, ℕ, ◌+◌, ◌*◌, eqb, leb, ltb}
 use Rattle.answer.specs.Answer.{Answer, gives, refuses, refuse, ◌>>=◌, ◌>>◌}
 use Rattle.divider.specs.declared.Frequency.{Frequency}
 use Rattle.divider.specs.Frequency.{whole, times, over}
@@ -10,28 +10,10 @@ use Rattle.tree.specs.declared.Clocks.{Clocks}
 use Rattle.tree.specs.Tree.{clocks_of}
 use Rattle.pll32.specs.declared.Part.{Part}
 use Rattle.pll32.specs.declared.Part.TheVariants.{V1, L1, V30x}
-use Rattle.pll32.specs.declared.Hse.{Hse}
-use Rattle.pll32.specs.declared.Hse.TheVariants as hse
-use Rattle.tree.specs.declared.HseFrequency.{HseFrequency}
-use Rattle.tree.specs.declared.HseFrequency.TheVariants as frequency
 use Rattle.pll32.specs.declared.Source.{Source}
 use Rattle.pll32.specs.declared.Source.TheVariants as source
 use Rattle.pll32.specs.declared.Setting.{Setting}
-use Rattle.tree.specs.declared.Output.{Output}
-use Rattle.tree.specs.declared.Output.TheVariants as pll
 use Rattle.pll32.specs.declared.ClockRecord.{ClockRecord}
-use Rattle.pll32.specs.declared.Checked.{Checked}
-use Rattle.pll32.specs.declared.Checked.TheVariants as checked
-
--- What a check says: the six clocks, and the USB divisor doubled
-abbrev pub checked_says : Checked → Answer ClockRecord
-checked_says (checked.Accepted x) = gives x
-checked_says (checked.Refused n) = refuses n
-
--- the number of a check that refuses, 0 of one that doesn't
-abbrev pub refused_of : Checked → ℕ
-refused_of (checked.Accepted x) = 0
-refused_of (checked.Refused n) = n
 
 -- the row of a part in the table of factors
 abbrev pub row_of : Part → ℕ
@@ -53,22 +35,17 @@ too_wide sys ahb apb1 apb2 = leb 4 sys || leb 16 ahb || leb 8 apb1 || leb 8 apb2
 abbrev pub wide_setting : ℕ → ℕ → Bool
 wide_setting prediv mul = leb 16 prediv || leb 16 mul
 
--- the frequency of a configuration's HSE
-abbrev pub hse_frequency_of : Hse → HseFrequency
-hse_frequency_of hse.Absent = frequency.Absent
-hse_frequency_of (hse.Present bypass freq) = frequency.Hz freq
-
 -- HSI 8 MHz
 abbrev pub hsi_of : Answer Frequency
 hsi_of = gives (whole 8000000)
 
 -- HSE needed, no frequency (3); it is not range-checked
-abbrev pub needed_hse_of : HseFrequency → Answer Frequency
-needed_hse_of frequency.Absent = refuses 3
-needed_hse_of (frequency.Hz hz) = gives (whole hz)
+abbrev pub needed_hse_of : Option ℕ → Answer Frequency
+needed_hse_of None = refuses 3
+needed_hse_of (Some hz) = gives (whole hz)
 
 -- what feeds a PLL: HSI, or HSE (3)
-abbrev pub source_frequency_of : Source → HseFrequency → Answer Frequency
+abbrev pub source_frequency_of : Source → Option ℕ → Answer Frequency
 source_frequency_of source.Hsi hse = hsi_of
 source_frequency_of source.Hse hse = needed_hse_of hse
 
@@ -76,6 +53,13 @@ source_frequency_of source.Hse hse = needed_hse_of hse
 abbrev pub source_of : Bool → Source
 source_of true = source.Hse
 source_of false = source.Hsi
+
+-- The fields: HSE by a predivider whose code is handed in; HSI by 1 where its bit is set, by 2 where it is clear
+abbrev pub prediv_code_in : Bool → ℕ → Bool → ℕ
+prediv_code_in pllsrc code hsipre = cond pllsrc code (cond hsipre 0 1)
+
+unfoldable pub setting_in : Bool → ℕ → Bool → ℕ → Setting
+setting_in pllsrc code hsipre mul = record { source = source_of pllsrc; prediv = prediv_code_in pllsrc code hsipre; mul = mul }
 
 -- Multipliers by PLLMUL code. V1: 2..16 for codes 0..14, 15 gives 16; L1 the same but 15 gives 18; V30x: 0 gives 18, 1..12 give 3..14, 13
 -- gives 6.5, here 13, 14 gives 15, 15 gives 16
@@ -97,7 +81,7 @@ multiplied_of part input c = do
   gives (cond (halves part c) (over (times input (factor part c)) 2) (times input (factor part c)))
 
 -- PLL from HSI or HSE after the predivider, code + 1: 28, 3, 24
-unfoldable pub pll_output_of : Part → HseFrequency → Setting → Answer Frequency
+unfoldable pub pll_output_of : Part → Option ℕ → Setting → Answer Frequency
 pll_output_of part hse s = do
   refuse 28 (wide_setting s.prediv s.mul)
   x ← source_frequency_of s.source hse
@@ -108,12 +92,12 @@ abbrev pub chosen : ℕ → Answer Frequency → Answer Frequency → Answer Fre
 chosen sys hse pll = cond (eqb sys 1) hse (cond (eqb sys 2) pll hsi_of)
 
 -- system clock PLL, none configured: 26
-abbrev pub pll_as_sysclk_of : Output → Answer Frequency
-pll_as_sysclk_of pll.Absent = refuses 26
-pll_as_sysclk_of (pll.At x) = gives x
+abbrev pub pll_as_sysclk_of : Option Frequency → Answer Frequency
+pll_as_sysclk_of None = refuses 26
+pll_as_sysclk_of (Some x) = gives x
 
 -- SYSCLK in the check: 20, 3, 26
-unfoldable pub sysclk_of : HseFrequency → Output → ℕ → Answer Frequency
+unfoldable pub sysclk_of : Option ℕ → Option Frequency → ℕ → Answer Frequency
 sysclk_of hse out sys = do
   refuse 20 (eqb sys 3)
   chosen sys (needed_hse_of hse) (pll_as_sysclk_of out)
@@ -125,12 +109,12 @@ usb_divisor V1 hz = cond (eqb hz 48000000) 2 (cond (eqb hz 72000000) 3 0)
 usb_divisor L1 hz = cond (eqb hz 48000000) 2 (cond (eqb hz 72000000) 3 (cond (eqb hz 96000000) 4 0))
 usb_divisor V30x hz = cond (eqb hz 48000000) 2 (cond (eqb hz 96000000) 4 (cond (eqb hz 144000000) 6 0))
 
-abbrev pub usb_of : Part → Output → ℕ
-usb_of part pll.Absent = 0
-usb_of part (pll.At x) = usb_divisor part x.hz
+abbrev pub usb_of : Part → Option Frequency → ℕ
+usb_of part None = 0
+usb_of part (Some x) = usb_divisor part x.hz
 
 -- the end of the check
-unfoldable pub configured_clocks_of : Part → HseFrequency → Output → ℕ → ℕ → ℕ → ℕ → Answer ClockRecord
+unfoldable pub configured_clocks_of : Part → Option ℕ → Option Frequency → ℕ → ℕ → ℕ → ℕ → Answer ClockRecord
 configured_clocks_of part hse out sys ahb apb1 apb2 = do
   refuse 28 (too_wide sys ahb apb1 apb2)
   x ← sysclk_of hse out sys
@@ -138,11 +122,11 @@ configured_clocks_of part hse out sys ahb apb1 apb2 = do
   gives (record { clocks = clocks; usb = usb_of part out })
 
 -- SYSCLK in the decoder: refused only where the clock in use needs it; code 3 is read as HSI
-unfoldable pub decoded_sysclk_of : Part → HseFrequency → Setting → ℕ → Answer Frequency
+unfoldable pub decoded_sysclk_of : Part → Option ℕ → Setting → ℕ → Answer Frequency
 decoded_sysclk_of part hse s sws = chosen sws (needed_hse_of hse) (pll_output_of part hse s)
 
 -- the end of the decoder
-unfoldable pub decoded_clocks_of : Part → HseFrequency → Setting → ℕ → ℕ → ℕ → ℕ → Answer Clocks
+unfoldable pub decoded_clocks_of : Part → Option ℕ → Setting → ℕ → ℕ → ℕ → ℕ → Answer Clocks
 decoded_clocks_of part hse s sws hpre ppre1 ppre2 = do
   refuse 28 (wide_setting s.prediv s.mul || too_wide sws hpre ppre1 ppre2)
   x ← decoded_sysclk_of part hse s sws

@@ -1,19 +1,14 @@
 -- Rows A1 to A11 of document 01, of the definitions of the reader and the check: one list and one statement. A row is ten profile bytes, the
 -- configuration that they are, and what the check says of it.
 -- Assumes nothing.
-use Rattle.std.specs.Prelude.{◌≡◌, refl, Bool, true, false, List, [], ◌∷◌, map, ℕ}
+use Rattle.std.specs.Prelude.{◌≡◌, refl, Bool, true, false, Option, None, Some, List, [], ◌∷◌, map, ℕ}
 use Rattle.answer.specs.Answer.{Answer, gives, refuses, ◌>>=◌}
 use Rattle.divider.specs.Divide.{ahb_of, ahb_divisor, ahb_divisors, apb_of, apb_divisor, by_ahb_of, apb_quotient_of}
 use Rattle.divider.specs.Frequency.{over}
 use Rattle.tree.specs.Tree.{clocks_of, below_of, bus_of, timer_clock}
 use Rattle.v4x7_rules.specs.Rules.{hse_in_range, used_hse_of, main_pll_input, main_pll_of, eth_pll_of, reference_code_of, two_thirds, sys_pll_of, buses_of}
 use Rattle.v4x7_rules.specs.Rules.{total_of, adc_from_hclk_of, adc_from_usb_hs_of}
-use Rattle.v4x7.specs.declared.Hse.{Hse}
-use Rattle.v4x7.specs.declared.Hse.TheVariants as hse
-use Rattle.v4x7.specs.declared.Pll.{Pll}
-use Rattle.v4x7.specs.declared.Pll.TheVariants as pll
-use Rattle.v4x7.specs.declared.HsPll.{HsPll}
-use Rattle.v4x7.specs.declared.HsPll.TheVariants as hspll
+use Rattle.tree.specs.declared.Hse.{Hse}
 use Rattle.v4x7.specs.declared.AdcClockSource.{AdcClockSource}
 use Rattle.v4x7.specs.declared.AdcClockSource.TheVariants as source
 use Rattle.v4x7.specs.declared.Config.{Config}
@@ -26,7 +21,7 @@ use Rattle.profile.specs.Profile.{read_profile, check_profile, tests, config_of}
 -- The parts of a configuration that rows name: HSE, main PLL with its source, system clock, SYSPLL source with its divisor less one, USBHS PLL,
 -- ETH PLL, AHB, APB2, ADC source, ADC prescaler; all by their codes.
 abbrev Parts : Type 0
-Parts = Hse × (ℕ × Pll) × ℕ × (ℕ × ℕ) × HsPll × Bool × ℕ × ℕ × AdcClockSource × ℕ
+Parts = Option Hse × (ℕ × Option ℕ) × ℕ × (ℕ × ℕ) × Option ℕ × Bool × ℕ × ℕ × AdcClockSource × ℕ
 
 pub config : Parts → Config
 config (h, (from, p), sys, (syspll, pre), usbhs, eth, ahb, apb2, src, by) = record {
@@ -49,15 +44,15 @@ config (h, (from, p), sys, (syspll, pre), usbhs, eth, ahb, apb2, src, by) = reco
 
 -- The source's default: HSI, no PLL, SYSPLL from the main PLL, nothing divided but the ADC's clock by 8.
 pub default : Parts
-default = (hse.Absent, (0, pll.Absent), 0, (6, 0), hspll.Absent, false, 0, 0, source.Hclk, 3)
+default = (None, (0, None), 0, (6, 0), None, false, 0, 0, source.Hclk, 3)
 
 -- What a row names, changed.
 
 hse_at : ℕ → Parts → Parts
-hse_at hz (h, m, s, v, u, e, a, b, f, p) = (hse.Present false hz, m, s, v, u, e, a, b, f, p)
+hse_at hz (h, m, s, v, u, e, a, b, f, p) = (Some (record { bypass = false; freq = hz }), m, s, v, u, e, a, b, f, p)
 
 main_pll : ℕ → ℕ → Parts → Parts
-main_pll from code (h, m, s, v, u, e, a, b, f, p) = (h, (from, pll.Mul code), s, v, u, e, a, b, f, p)
+main_pll from code (h, m, s, v, u, e, a, b, f, p) = (h, (from, Some code), s, v, u, e, a, b, f, p)
 
 system : ℕ → Parts → Parts
 system code (h, m, s, v, u, e, a, b, f, p) = (h, m, code, v, u, e, a, b, f, p)
@@ -66,7 +61,7 @@ sys_pll : ℕ → ℕ → Parts → Parts
 sys_pll from less (h, m, s, v, u, e, a, b, f, p) = (h, m, 2, (from, less), u, e, a, b, f, p)
 
 usb_hs_pll : ℕ → Parts → Parts
-usb_hs_pll from (h, m, s, v, u, e, a, b, f, p) = (h, m, s, v, hspll.From from, e, a, b, f, p)
+usb_hs_pll from (h, m, s, v, u, e, a, b, f, p) = (h, m, s, v, Some from, e, a, b, f, p)
 
 eth_pll : Parts → Parts
 eth_pll (h, m, s, v, u, e, a, b, f, p) = (h, m, s, v, u, true, a, b, f, p)

@@ -1,43 +1,25 @@
 // Serial divisors, of a PCLK and of a port.
-use crate::{query, reply};
-use serial::Serial;
-use tree::Clocks;
+use crate::query::Query;
+use crate::reply::Reply;
+use answer::Refusal;
 
-// The 32 bits of a signed number.
-fn bits(x: i32) -> u32 {
-    ((x as i64 + 4294967296) as u64 % 4294967296) as u32
+// BRR, and its error in two's complement.
+fn set(brr: u16, error: i32) -> Reply {
+    let mut a = Reply::accepted();
+    a.bytes(&brr.to_be_bytes());
+    a.bytes(&error.to_be_bytes());
+    a
 }
 
-fn set(kind: u8, answer: Serial) -> [u8; 64] {
-    match answer {
-        Serial::Refused(n) => reply::empty(kind, n),
-        Serial::Set { brr, error } => {
-            let mut a = reply::word(reply::empty(kind, 0), 4, bits(error));
-            a[2] = (brr / 256) as u8;
-            a[3] = (brr % 256) as u8;
-            a
-        }
-    }
+pub fn divisor(mut q: Query<'_>) -> Result<Reply, Refusal> {
+    let pclk = q.word();
+    let (brr, error) = serial::divisor(pclk, q.word())?;
+    Ok(set(brr, error))
 }
 
-// CLOCKS at byte 1.
-fn clocks(q: &[u8; 128]) -> Clocks {
-    Clocks {
-        sysclk: query::word(q, 1),
-        hclk: query::word(q, 5),
-        pclk1: query::word(q, 9),
-        pclk2: query::word(q, 13),
-        pclk1_tim: query::word(q, 17),
-        pclk2_tim: query::word(q, 21),
-    }
-}
-
-pub fn answer(kind: u8, q: &[u8; 128]) -> [u8; 64] {
-    match kind {
-        0x40 => set(kind, serial::divisor(query::word(q, 1), query::word(q, 5))),
-        _ => set(
-            kind,
-            serial::port_divisor(clocks(q), q[25], query::word(q, 26)),
-        ),
-    }
+pub fn port(mut q: Query<'_>) -> Result<Reply, Refusal> {
+    let clocks = q.clocks();
+    let bus = q.byte();
+    let (brr, error) = serial::port_divisor(clocks, bus, q.word())?;
+    Ok(set(brr, error))
 }

@@ -1,82 +1,91 @@
-// The parts of an answer.
-use answer::Reply;
-use divider::Rate;
-use tree::{Buses, Clocks};
+// The parts of an answer, each behind the one before.
+use answer::Refusal;
+use image::Fields;
+use tree::Clocks;
 
-// An answer's kind and refusal number, and nothing else.
-pub fn empty(kind: u8, number: u8) -> [u8; 64] {
-    let mut a = [0u8; 64];
-    a[0] = kind;
-    a[1] = number;
+// An answer's bytes, and how many of them are there. The kind and the refusal number come first.
+#[derive(Clone, Copy)]
+pub struct Reply {
+    pub bytes: [u8; 64],
+    len: usize,
+}
+
+impl Reply {
+    // A refusal number, and nothing behind it yet.
+    pub fn numbered(number: u8) -> Reply {
+        let mut bytes = [0u8; 64];
+        bytes[1] = number;
+        Reply { bytes, len: 2 }
+    }
+
+    // Accepted, and nothing behind it yet.
+    pub fn accepted() -> Reply {
+        Reply::numbered(0)
+    }
+
+    // One number.
+    pub fn of_word(x: u32) -> Reply {
+        let mut a = Reply::accepted();
+        a.word(x);
+        a
+    }
+
+    // The six clocks.
+    pub fn of_clocks(k: Clocks) -> Reply {
+        let mut a = Reply::accepted();
+        a.clocks(k);
+        a
+    }
+
+    // A byte, where the answer has room for it.
+    pub fn byte(&mut self, x: u8) {
+        if let Some(place) = self.bytes.get_mut(self.len) {
+            *place = x;
+            self.len += 1;
+        }
+    }
+
+    pub fn flag(&mut self, x: bool) {
+        self.byte(u8::from(x));
+    }
+
+    // As many of the bytes as the answer has room for.
+    pub fn bytes(&mut self, xs: &[u8]) {
+        for x in xs {
+            self.byte(*x);
+        }
+    }
+
+    pub fn word(&mut self, x: u32) {
+        self.bytes(&x.to_be_bytes());
+    }
+
+    // A code, or two zeros where there is none.
+    pub fn code(&mut self, x: Option<u8>) {
+        self.flag(x.is_some());
+        self.byte(x.unwrap_or(0));
+    }
+
+    pub fn clocks(&mut self, k: Clocks) {
+        self.word(k.sysclk);
+        self.word(k.hclk);
+        self.word(k.pclk1);
+        self.word(k.pclk2);
+        self.word(k.pclk1_tim);
+        self.word(k.pclk2_tim);
+    }
+
+    // IMAGE of the fields, or zeros where they have none.
+    pub fn image(&mut self, fields: Fields) {
+        let mut image = [0u8; 8];
+        let _ = image::write_image(fields, &mut image);
+        self.bytes(&image);
+    }
+}
+
+// The number of a write: 0 where it is done.
+pub fn written(outcome: Result<(), Refusal>, lent: &[u8]) -> Reply {
+    let mut a = Reply::numbered(answer::number(outcome));
+    a.bytes(lent);
     a
-}
-
-// A byte at a place, where the answer has one.
-pub fn byte(a: [u8; 64], at: usize, x: u8) -> [u8; 64] {
-    let mut out = a;
-    if at < 64 {
-        out[at] = x;
-    }
-    out
-}
-
-pub fn flag(a: [u8; 64], at: usize, x: bool) -> [u8; 64] {
-    byte(a, at, x as u8)
-}
-
-// A number of four bytes from a place on, where the answer has room for it.
-pub fn word(a: [u8; 64], at: usize, x: u32) -> [u8; 64] {
-    let mut out = a;
-    if at <= 60 {
-        out[at] = (x / 16777216 % 256) as u8;
-        out[at + 1] = (x / 65536 % 256) as u8;
-        out[at + 2] = (x / 256 % 256) as u8;
-        out[at + 3] = (x % 256) as u8;
-    }
-    out
-}
-
-// Two numbers from a place on.
-pub fn words(a: [u8; 64], at: usize, x: u32, y: u32) -> [u8; 64] {
-    if 56 < at {
-        return a;
-    }
-    word(word(a, at, x), at + 4, y)
-}
-
-// A number at byte 2, or the refusal number.
-pub fn number(kind: u8, answer: Reply) -> [u8; 64] {
-    match answer {
-        Reply::Refused(n) => empty(kind, n),
-        Reply::Is(x) => word(empty(kind, 0), 2, x),
-    }
-}
-
-// A frequency at byte 2, or the refusal number.
-pub fn rate(kind: u8, answer: Rate) -> [u8; 64] {
-    match answer {
-        Rate::Refused(n) => empty(kind, n),
-        Rate::At(x) => word(empty(kind, 0), 2, x.hz),
-    }
-}
-
-// CLOCKS from a place on.
-pub fn clocks(a: [u8; 64], at: usize, k: Clocks) -> [u8; 64] {
-    if 40 < at {
-        return a;
-    }
-    let first = word(word(word(a, at, k.sysclk), at + 4, k.hclk), at + 8, k.pclk1);
-    word(
-        word(word(first, at + 12, k.pclk2), at + 16, k.pclk1_tim),
-        at + 20,
-        k.pclk2_tim,
-    )
-}
-
-// The six clocks at byte 2, or the refusal number.
-pub fn run(kind: u8, buses: Buses) -> [u8; 64] {
-    match buses {
-        Buses::Refused(n) => empty(kind, n),
-        Buses::Run(k) => clocks(empty(kind, 0), 2, k),
-    }
 }

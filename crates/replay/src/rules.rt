@@ -1,27 +1,28 @@
 // The calls below the check and the decoder: the main PLL, SYSPLL's input and the ADC's ratio of V4x7, and the PLL of V1, L1 and V30x.
-use crate::{query, reply};
-use divider::Rate;
+use crate::query::Query;
+use crate::reply::Reply;
+use answer::Refusal;
 use pll32::{Part, Setting};
-use tree::Output;
-use v4x7_rules::Ratio;
 
-fn output(present: u8, hz: u32) -> Output {
-    if present == 0 {
-        Output::Absent
-    } else {
-        Output::At(divider::hertz(hz))
-    }
+pub fn main_pll(mut q: Query<'_>) -> Result<Reply, Refusal> {
+    let from_hse = q.flag();
+    let mul = q.byte();
+    let output = v4x7_rules::main_pll(q.number(), from_hse, mul)?;
+    Ok(Reply::of_word(output.hz))
 }
 
-fn ratio(answer: Ratio) -> [u8; 64] {
-    match answer {
-        Ratio::Refused(n) => reply::empty(0x0f, n),
-        Ratio::Of { source, divisor } => reply::word(
-            reply::word(reply::empty(0x0f, 0), 2, source),
-            6,
-            divisor,
-        ),
-    }
+pub fn syspll_input(mut q: Query<'_>) -> Result<Reply, Refusal> {
+    let source = q.byte();
+    let main = q.number().map(divider::hertz);
+    let input = v4x7_rules::syspll_input(source, main)?;
+    Ok(Reply::of_word(input.hz))
+}
+
+pub fn adc_from_usbhs(mut q: Query<'_>) -> Result<Reply, Refusal> {
+    let (source, divisor) = v4x7_rules::adc_from_usbhs(q.byte(), q.byte(), q.byte())?;
+    let mut a = Reply::of_word(source);
+    a.word(divisor);
+    Ok(a)
 }
 
 fn part(code: u8) -> Part {
@@ -32,27 +33,13 @@ fn part(code: u8) -> Part {
     }
 }
 
-fn pll_output(q: &[u8; 128]) -> Rate {
+pub fn pll_output(mut q: Query<'_>) -> Result<Reply, Refusal> {
+    let part = part(q.byte());
     let setting = Setting {
-        source: pll32::source_of(q[2] != 0),
-        prediv: q[3],
-        mul: q[4],
+        source: pll32::source_of(q.flag()),
+        prediv: q.byte(),
+        mul: q.byte(),
     };
-    let hse = query::frequency(q[5], query::word(q, 6));
-    pll32::pll_output(part(q[1]), hse, setting)
-}
-
-pub fn answer(kind: u8, q: &[u8; 128]) -> [u8; 64] {
-    match kind {
-        0x0d => {
-            let hse = query::frequency(q[3], query::word(q, 4));
-            reply::rate(kind, v4x7_rules::main_pll(hse, q[1] != 0, q[2]))
-        }
-        0x0e => reply::rate(
-            kind,
-            v4x7_rules::syspll_input(q[1], output(q[2], query::word(q, 3))),
-        ),
-        0x0f => ratio(v4x7_rules::adc_from_usbhs(q[1], q[2], q[3])),
-        _ => reply::rate(kind, pll_output(q)),
-    }
+    let output = pll32::pll_output(part, q.number(), setting)?;
+    Ok(Reply::of_word(output.hz))
 }

@@ -1,74 +1,58 @@
-// The script of a startup's readings: thirteen segments from byte 61 on, or, with ticks, eleven from byte 69 on.
-use crate::query;
+// The script of a startup's readings: segments, each of which gives its reading so many times.
+use crate::query::Query;
 use startup::Reading;
 
-// Where a script stands: the segment in use, and how many of its readings were used.
+// The bytes of a segment.
+pub const SEGMENT: usize = 5;
+
 #[derive(Clone, Copy)]
-pub struct Cursor {
-    pub segment: usize,
-    pub taken: u32,
+struct Segment {
+    count: u32,
+    reading: Reading,
 }
 
-// The count of a segment, three bytes; 0 past the last.
-fn count(q: &[u8; 128], segment: usize) -> u32 {
-    if 13 <= segment {
-        return 0;
+fn next_segment(q: &mut Query<'_>) -> Segment {
+    Segment {
+        count: u32::from_be_bytes([0, q.byte(), q.byte(), q.byte()]),
+        reading: q.reading(),
     }
-    query::word(q, 60 + segment * 5) % 0x100_0000
 }
 
-// On to the next segment where this one is used up and another follows.
-pub fn settled(q: &[u8; 128], c: Cursor) -> Cursor {
-    let segment = c.segment;
-    if segment < 12 {
-        if (count(q, segment) <= c.taken) & (0 < count(q, segment + 1)) {
-            return Cursor {
-                segment: segment + 1,
-                taken: 0,
-            };
+// The segment in use, how many of its readings were used, and the segments behind it.
+#[derive(Clone, Copy)]
+pub struct Script<'a> {
+    now: Segment,
+    used: u32,
+    behind: Query<'a>,
+}
+
+impl<'a> Script<'a> {
+    pub fn new(segments: &'a [u8]) -> Script<'a> {
+        let mut behind = Query::of(segments);
+        let now = next_segment(&mut behind);
+        Script {
+            now,
+            used: 0,
+            behind,
         }
     }
-    c
-}
 
-pub fn reading_at(q: &[u8; 128], segment: usize) -> Reading {
-    if 13 <= segment {
-        return query::reading(0, 0);
+    // The next reading: of the next segment where this one is used up and another follows.
+    pub fn next(&mut self) -> Reading {
+        let mut behind = self.behind;
+        let next = next_segment(&mut behind);
+        if self.now.count <= self.used && 0 < next.count {
+            *self = Script {
+                now: next,
+                used: 0,
+                behind,
+            };
+        }
+        self.now.reading
     }
-    let at = 64 + segment * 5;
-    query::reading(q[at], q[at + 1])
-}
 
-// One more, up to what a script can count: three bytes.
-pub fn one_more(n: u32) -> u32 {
-    if n < 16777216 { n + 1 } else { n }
-}
-
-pub fn first() -> Cursor {
-    Cursor {
-        segment: 0,
-        taken: 0,
+    // The reading was used. One that a call ignores stays the next one.
+    pub fn count(&mut self) {
+        self.used = self.used.saturating_add(1);
     }
-}
-
-// After a call: a reading that it ignored stays the next one.
-pub fn after(c: Cursor, taken: bool) -> Cursor {
-    if taken {
-        return Cursor {
-            segment: c.segment,
-            taken: one_more(c.taken),
-        };
-    }
-    c
-}
-
-// A query with ticks as one without: its segments from byte 61 on.
-pub fn without_ticks(q: &[u8; 128]) -> [u8; 128] {
-    let mut out = [0u8; 128];
-    let mut i = 0;
-    while i < 55 {
-        out[61 + i] = q[69 + i];
-        i += 1;
-    }
-    out
 }

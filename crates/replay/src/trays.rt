@@ -1,37 +1,36 @@
 // A board, and a tray of boards.
 ghost use Rattle.std.specs.Prelude.{◌≤◌};
 
-use crate::{codec, query, reply};
-use answer::Outcome;
+use crate::query::Query;
+use crate::reply::{Reply, written};
 
-pub fn board(q: &[u8; 128]) -> [u8; 64] {
-    let n = query::length(32, 0, q[1]);
-    let bytes = query::part(q, 2);
-    codec::written(0x42, Outcome::Done, boards::board(&bytes[..n]), 32)
-}
+// The longest lent output of a tray, and the most bytes of profiles.
+const LENT: usize = 448;
 
-// The answer of a tray, and its lent output, n bytes long, from the query's place on.
-fn shown(q: &[u8; 128], outcome: Outcome, lent: &[u8; 448], n: usize) -> [u8; 64]
-    requires { n ≤ 448 }
-{
-    let place = query::length(448, q[125], q[126]);
-    let mut a = reply::empty(0x43, codec::number(outcome));
-    let mut i = 0;
-    while i < 62 {
-        if place + i < n {
-            a[2 + i] = lent[place + i];
-        }
-        i += 1;
-    }
+const PROFILES: usize = 120;
+
+pub fn board(mut q: Query<'_>) -> Reply {
+    let mut a = Reply::accepted();
+    a.bytes(&boards::board(q.lent(32)));
     a
 }
 
-pub fn tray(q: &[u8; 128]) -> [u8; 64] {
-    let n = query::length(120, 0, q[1]);
-    let bytes = &q[..];
-    let profiles = &bytes[2..2 + n];
-    let m = query::length(448, q[122], q[123]);
-    let mut lent = [q[124]; 448];
+// A length of two bytes; one above the limit counts as the limit.
+fn length(q: &mut Query<'_>) -> usize
+    ensures { result ≤ 448 }
+{
+    let n = u16::from_be_bytes([q.byte(), q.byte()]);
+    usize::from(n).min(LENT)
+}
+
+// The answer of a tray, and its lent output from the query's place on.
+pub fn tray(mut q: Query<'_>) -> Reply {
+    let n = usize::from(q.byte()).min(PROFILES);
+    let room = q.bytes(PROFILES);
+    let profiles = &room[..n.min(room.len())];
+    let m = length(&mut q);
+    let mut lent = [q.byte(); LENT];
     let outcome = boards::tray(profiles, &mut lent[..m]);
-    shown(q, outcome, &lent, m)
+    let place = length(&mut q);
+    written(outcome, lent[..m].get(place..).unwrap_or(&[]))
 }

@@ -1,43 +1,50 @@
-// The V4x7 check, decoder and queries.
-use crate::{query, reply};
-use decoder::Query;
-use v4x7::Checked;
+// The V4x7 check, decoder and queries, and what a host asks before it starts.
+use crate::query::Query;
+use crate::reply::Reply;
+use answer::Refusal;
 
-pub fn check(q: &[u8; 128]) -> [u8; 64] {
-    let config = query::config(q);
-    let checked = config.clocks();
-    let Checked::Accepted(accepted) = checked else {
-        return reply::empty(1, v4x7::refused(checked));
+pub fn check(mut q: Query<'_>) -> Reply {
+    let checked = q.config().clocks();
+    let Ok(accepted) = checked else {
+        return Reply::numbered(answer::number(checked));
     };
-    reply::word(
-        reply::clocks(reply::empty(1, 0), 2, accepted.clocks),
-        26,
-        accepted.adc,
-    )
+    let mut a = Reply::of_clocks(accepted.clocks);
+    a.word(accepted.adc);
+    a
 }
 
-pub fn decode(q: &[u8; 128]) -> [u8; 64] {
-    let hse = query::frequency(q[34], query::word(q, 35));
-    reply::run(2, decoder::decode(query::fields(q, 1), hse))
+pub fn decode(mut q: Query<'_>) -> Result<Reply, Refusal> {
+    let fields = q.fields();
+    let clocks = decoder::decode(fields, q.number())?;
+    Ok(Reply::of_clocks(clocks))
 }
 
-fn queried(kind: u8, answer: Query) -> [u8; 64] {
-    match answer {
-        Query::Refused(n) => reply::empty(kind, n),
-        Query::NotReady => reply::empty(kind, 0),
-        Query::Is(hz) => reply::word(reply::byte(reply::empty(kind, 0), 2, 1), 3, hz),
-    }
+// Whether its PLL is ready, and the frequency.
+fn queried(found: Option<u32>) -> Reply {
+    let mut a = Reply::accepted();
+    a.flag(found.is_some());
+    a.word(found.unwrap_or(0));
+    a
 }
 
-pub fn adc(q: &[u8; 128]) -> [u8; 64] {
-    let sysclk = query::word(q, 34);
-    queried(3, decoder::adc_frequency(query::fields(q, 1), sysclk))
+pub fn adc(mut q: Query<'_>) -> Result<Reply, Refusal> {
+    let fields = q.fields();
+    let found = decoder::adc_frequency(fields, q.word())?;
+    Ok(queried(found))
 }
 
-pub fn rng(q: &[u8; 128]) -> [u8; 64] {
-    let sysclk = query::word(q, 34);
-    queried(
-        4,
-        decoder::rng_source_frequency(query::fields(q, 1), sysclk),
-    )
+pub fn rng(mut q: Query<'_>) -> Result<Reply, Refusal> {
+    let fields = q.fields();
+    let found = decoder::rng_source_frequency(fields, q.word())?;
+    Ok(queried(found))
+}
+
+pub fn waits_owed(mut q: Query<'_>) -> Result<Reply, Refusal> {
+    let waits = startup::waits_owed(q.config())?;
+    Ok(Reply::of_word(waits))
+}
+
+pub fn call_bound(mut q: Query<'_>) -> Result<Reply, Refusal> {
+    let calls = startup::call_bound(q.config())?;
+    Ok(Reply::of_word(calls))
 }

@@ -1,21 +1,12 @@
 // Answers a list of inputs one after another: each is a length byte and so many bytes. What it writes is what the program `clocks` writes for each.
 #![tactic(auto)]
 
-ghost use Rattle.std.specs.Prelude.{◌<◌};
-
 use std::io::Read;
-use text::Put;
 
-fn wide(x: u8) -> usize
-    ensures { result < 256 }
-{
-    x as usize
-}
-
-// Writes the answer to an input, and answers whether all of it went out. Every text has room.
+// Writes the answer to an input, and answers whether all of it went out. Every text has room. `clocks` has the same lines, and says why.
 fn answer(rt: &impl Print, input: &[u8]) -> bool {
     let mut out = [0u8; report::TEXT];
-    let Put::At(n) = report::report(input, &mut out) else {
+    let Some(n) = report::report(input, &mut out) else {
         return false;
     };
     rt.write_all(&out[..n]).is_ok()
@@ -27,7 +18,7 @@ fn answer_next<R: Read>(rt: &impl Print, reader: &mut R) -> bool {
     if reader.read_exact(&mut size).is_err() {
         return false;
     }
-    let n = wide(size[0]);
+    let n = usize::from(size[0]);
     let mut input = [0u8; 255];
     if reader.read_exact(&mut input[..n]).is_err() {
         return false;
@@ -35,11 +26,12 @@ fn answer_next<R: Read>(rt: &impl Print, reader: &mut R) -> bool {
     answer(rt, &input[..n])
 }
 
-// A proved loop has to end: so it counts its turns down, from a number that no run uses up.
+// A proved loop has to end: so it has a number of turns that no run uses up.
 fn main(rt: HostRuntime) {
     let mut reader = rt.reader();
-    let mut turns = u64::MAX;
-    while turns > 0 && answer_next(&rt, &mut reader) {
-        turns -= 1;
+    for _ in 0..u64::MAX {
+        if !answer_next(&rt, &mut reader) {
+            break;
+        }
     }
 }

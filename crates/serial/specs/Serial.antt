@@ -1,10 +1,8 @@
 -- Document 02, K1: a serial divisor and its error, of a bus's clock and a wanted rate.
 -- Assumes nothing.
-use Rattle.std.specs.Prelude.{ℕ, ◌+◌, ◌*◌, ◌/◌, ◌≡◌, refl, cond, ◌||◌, ltb, eqb, ℤ, pos, ◌-ℤ◌}
-use Rattle.answer.specs.Answer.{Answer, gives, refuses, refuse, ◌>>=◌, ◌>>◌, settled_by}
+use Rattle.std.specs.Prelude.{ℕ, ◌+◌, ◌*◌, ◌/◌, cond, ◌||◌, ltb, eqb, ℤ, pos, ◌-ℤ◌}
+use Rattle.answer.specs.Answer.{Answer, gives, refuses, refuse, ◌>>=◌, ◌>>◌}
 use Rattle.tree.specs.declared.Clocks.{Clocks}
-use Rattle.serial.specs.declared.Serial.{Serial}
-use Rattle.serial.specs.declared.Serial.TheVariants as serial
 
 -- the nearest whole number to p / r, halves up: p / r + 1/2 rounded down. Laws.antt says it of every other whole number.
 unfoldable pub nearest_of : ℕ → ℕ → ℕ
@@ -30,21 +28,3 @@ unfoldable pub port_of : Clocks → ℕ → ℕ → Answer (ℕ × ℤ)
 port_of k bus r = do
   pclk ← bus_clock_of k bus
   divisor_of pclk r
-
--- a `Serial`: BRR and its error, or its refusal
-abbrev pub serial_says : Serial → Answer (ℕ × ℤ)
-serial_says (serial.Set brr error) = gives (brr, error)
-serial_says (serial.Refused n) = refuses n
-
--- Nothing is left open: two results that a promise allows are equal.
-serial_of : Answer (ℕ × ℤ) → Serial
-serial_of (gives x) = serial.Set x.0 x.1
-serial_of (refuses n) = serial.Refused n
-
-serial_again : (r : Serial) → serial_of (serial_says r) ≡ r
-unfolding serial_of
-serial_again (serial.Set brr error) = refl
-serial_again (serial.Refused n) = refl
-
-pub serial_settled : (r s : Serial) → serial_says r ≡ serial_says s → r ≡ s
-serial_settled = settled_by serial_says serial_of serial_again

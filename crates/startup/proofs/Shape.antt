@@ -1,22 +1,19 @@
 -- Facts of the list of steps, by their numbers.
 -- Assumes nothing.
-use Prim.Native.Nat.{ℕ, zero, suc, ◌+◌, ◌≤◌, ◌<◌}
+use Prim.Native.Nat.{ℕ, zero, suc, ◌+◌, ◌≤◌, ◌<◌, max}
 use mathlib.Core.Path.{◌≡◌, refl, sym, ap, ◌∙◌, subst}
 use mathlib.Core.Logic.{◌⊎◌, inl, inr, ⊎_elim}
-use mathlib.Core.Bool.{Bool, true, false, ◌&&◌}
+use mathlib.Core.Bool.{Bool, true, false}
 use mathlib.Core.List.{List, [], ◌∷◌}
 use native.Mathlib.Omega.{arith}
 use native.Mathlib.Nat.{le_of_suc-le-suc, eq-or-lt_of_le, not-suc-le-zero}
 use native.Mathlib.Numerals.{add-one}
-use borrow.Author.Tests.{le-leb, lt-leb, leb-true, leb-false}
+use borrow.Author.Tests.{leb-true, leb-false}
 use lib.Dec.{leb}
 use lib.ListN.{drop, length, drop_of_length-le}
-use Rattle.tree.specs.declared.Clocks.{Clocks}
 use Rattle.v4x7.specs.declared.Config.{Config}
-use Rattle.image.specs.declared.Seen.{Seen}
-use Rattle.image.specs.declared.Fields.{Fields}
-use Rattle.startup.specs.declared.steps.Work.TheVariants.{NotListed}
-use Rattle.startup.specs.Steps.{Entry, parts, steps, from, on_in, listed_of, step_after, next_of, work_in, work_of}
+use Rattle.v4x7.specs.Check.{has_hse, has_usb_hs, has_main}
+use Rattle.startup.specs.Steps.{parts, from, on_in, listed_of, step_after, next_of}
 
 -- What holds at a, and at the n - 1 numbers after it, holds at any of these.
 abbrev pub Row : (ℕ → Type 0) → ℕ → ℕ → Type 0
@@ -41,41 +38,43 @@ past : {A : Type 0} (l : List A) (k : ℕ) → length l < k → from k l ≡ []
 past l zero h = refl
 past l (suc j) h = drop_of_length-le l (le_of_suc-le-suc h)
 
--- The steps that belong to no part.
-abbrev Always : Config → ℕ → Type 0
-Always c k = (leb 1 k && leb k 28) ≡ listed_of c k
+-- The steps that belong to no part, and the numbers that no step has.
 
-abbrev Own : Config → ℕ → Type 0
-Own c k = (k ≡ 24 → ⊥) → (k ≡ 25 → ⊥) → Always c k
-
-always_past : (c : Config) (k : ℕ) → 28 < k → Always c k
+pub always_listed : (c : Config) (k : ℕ) → 1 ≤ k → k < 8 → listed_of c k ≡ true
 unfolding listed_of
-always_past c k h = simp (le-leb 1 k (omega arith), lt-leb k 28 h) (sym (ap on_in (past (parts c) k h)))
+always_listed c k = within (λ k. listed_of c k ≡ true) 1 7 k (refl, (refl, (refl, (refl, (refl, (refl, (refl, tt)))))))
 
-pub always : (c : Config) (k : ℕ) → (k < 8) ⊎ (18 < k) → Own c k
+pub set_up_listed : (c : Config) (k : ℕ) → 19 ≤ k → k < 24 → listed_of c k ≡ true
 unfolding listed_of
-always c k (inl h) n m = within (Always c) 0 8 k (refl, (refl, (refl, (refl, (refl, (refl, (refl, (refl, tt)))))))) (omega arith) h
-always c k (inr h) n m =
-    let from-26 : Row (Own c) 26 3 = (λ p q. refl, (λ p q. refl, (λ p q. refl, tt))) in
-    let from-24 : Row (Own c) 24 5 = (λ p q. absurd (p refl), (λ p q. absurd (q refl), from-26)) in
-    let from-21 : Row (Own c) 21 8 = (λ p q. refl, (λ p q. refl, (λ p q. refl, from-24))) in
-    ⊎_elim
-    (λ g. within (Own c) 19 10 k (λ p q. refl, (λ p q. refl, from-21)) h (omega arith) n m)
-    (λ g. always_past c k g) (le_or_lt k 28)
+set_up_listed c k = within (λ k. listed_of c k ≡ true) 19 5 k (refl, (refl, (refl, (refl, (refl, tt)))))
 
--- A number that is none of 1 to n is 0 or beyond them.
-abbrev NoneOf : ℕ → ℕ → Type 0
-NoneOf zero k = Unit {0}
-NoneOf (suc n) k = NoneOf n k × (k ≡ suc n → ⊥)
+pub switch_listed : (c : Config) (k : ℕ) → 26 ≤ k → k < 29 → listed_of c k ≡ true
+unfolding listed_of
+switch_listed c k = within (λ k. listed_of c k ≡ true) 26 3 k (refl, (refl, (refl, tt)))
 
-beyond : (n k : ℕ) → NoneOf n k → 0 < k → n < k
-beyond zero k r h = h
-beyond (suc n) k r h = let b = beyond n k r.0 h in let o = r.1 in omega arith
+pub none_listed : (c : Config) (k : ℕ) → 28 < k → listed_of c k ≡ false
+unfolding listed_of
+none_listed c k h = ap on_in (past (parts c) k h)
 
-pub not_listed : (c : Config) (x : Clocks) (f : Fields) (s : Seen) (k : ℕ) → NoneOf 28 k → NotListed ≡ work_of c x k f s
-unfolding work_of
-not_listed c x f s zero r = refl
-not_listed c x f s (suc j) r = sym (ap (λ (l : List Entry). work_in l f s) (past (steps c x) (suc j) (beyond 28 (suc j) r (omega arith))))
+-- The steps of a part.
+
+pub hse_listed : (c : Config) (k : ℕ) → 8 ≤ k → k < 11 → listed_of c k ≡ has_hse c.hse
+unfolding listed_of
+hse_listed c k = within (λ k. listed_of c k ≡ has_hse c.hse) 8 3 k (refl, (refl, (refl, tt)))
+
+pub eth_listed : (c : Config) (k : ℕ) → 11 ≤ k → k < 13 → listed_of c k ≡ c.ethpll
+unfolding listed_of
+eth_listed c k = within (λ k. listed_of c k ≡ c.ethpll) 11 2 k (refl, (refl, tt))
+
+pub usb_hs_listed : (c : Config) (k : ℕ) → 13 ≤ k → k < 16 → listed_of c k ≡ has_usb_hs c.hspll
+unfolding listed_of
+usb_hs_listed c k = within (λ k. listed_of c k ≡ has_usb_hs c.hspll) 13 3 k (refl, (refl, (refl, tt)))
+
+pub main_listed : (c : Config) (k : ℕ) → 16 ≤ k → k < 19 → listed_of c k ≡ has_main c.pll
+unfolding listed_of
+main_listed c k = within (λ k. listed_of c k ≡ has_main c.pll) 16 3 k (refl, (refl, (refl, tt)))
+
+pub ruleset listed_by = (always_listed, set_up_listed, switch_listed, none_listed, hse_listed, eth_listed, usb_hs_listed, main_listed)
 
 -- The next step whose part is present is the one after n, or is looked for behind that.
 
@@ -108,3 +107,9 @@ module _ (c : Config) (k n : ℕ) (e : next_of c k ≡ next_of c n) where
   pub next_none : 28 ≤ n → n ≡ next_of c k
   unfolding next_of
   next_none h = sym (e ∙ ap (step_after n) (drop_of_length-le (parts c) h))
+
+-- behind the last step there is none, wherever the search began
+pub next_end : (c : Config) (k n : ℕ) → next_of c k ≡ next_of c n → (k ≤ 28 → n ≤ 28) → 28 ≤ n → max k 28 ≡ next_of c k
+next_end c k n e end h =
+    ⊎_elim (λ le. let up = end le in let same : max k 28 ≡ n = omega arith in same ∙ next_none c k n e h)
+    (λ lt. let same : max k 28 ≡ k = omega arith in same ∙ next_none c k k refl (omega arith)) (le_or_lt k 28)

@@ -1,9 +1,9 @@
 -- The startup of document 01, "Startup steps": starting, and one call. The steps are those of Steps.antt; one small machine works them.
 -- Assumes nothing.
-use Rattle.std.specs.Prelude.{ℕ, suc, zero, ◌+◌, ◌*◌, ◌%◌, ◌≡◌, refl, Bool, cond, not, ◌||◌, List, [], ◌∷◌, ltb, leb, eqb}
+use Rattle.std.specs.Prelude.{ℕ, suc, zero, ◌+◌, ◌*◌, ◌%◌, ◌≡◌, Bool, cond, not, ◌||◌, Option, None, Some, List, [], ◌∷◌, ltb, leb, eqb}
 use Rattle.std.proofs.Common.{◌∙◌, sym}
 use Rattle.std.specs.Int.Count.{ones}
-use Rattle.answer.specs.Answer.{Answer, gives, refuses, refuse, ◌>>=◌, ◌>>◌, settled_by}
+use Rattle.answer.specs.Answer.{Answer, gives, refuses, refuse, ◌>>=◌, ◌>>◌}
 use Rattle.tree.specs.declared.Clocks.{Clocks}
 use Rattle.v4x7.specs.declared.Config.{Config}
 use Rattle.v4x7.specs.declared.ClockRecord.{ClockRecord}
@@ -13,19 +13,15 @@ use Rattle.image.specs.declared.Fields.{Fields}
 use Rattle.image.specs.Image.{in_width}
 use Rattle.startup.specs.Writes.{with_seen}
 use Rattle.startup.specs.declared.steps.Work.{Work}
-use Rattle.startup.specs.declared.steps.Work.TheVariants.{Wrote, Waits, Reads, Compares, NotListed}
+use Rattle.startup.specs.declared.steps.Work.TheVariants.{Wrote, Waits, Reads, Compares}
 use Rattle.startup.specs.Steps.{listed_of, next_of, work_of}
 use Rattle.startup.specs.declared.Reading.{Reading}
 use Rattle.startup.specs.declared.Report.{Report}
 use Rattle.startup.specs.declared.Report.TheVariants.{Worked, Waiting, Running, Failed, Refused}
-use Rattle.startup.specs.declared.Phase.{Phase}
-use Rattle.startup.specs.declared.Phase.TheVariants.{Going, Over}
 use Rattle.startup.specs.declared.Startup.{Startup}
 use Rattle.startup.specs.declared.Stepped.{Stepped}
-use Rattle.startup.specs.declared.Started.{Started}
-use Rattle.startup.specs.declared.Started.TheVariants as started
 use Rattle.startup.specs.declared.FlashKey.{FlashKey}
-use Rattle.startup.specs.declared.FlashKey.TheVariants.{Keyr, ModeKeyr, NoKey}
+use Rattle.startup.specs.declared.FlashKey.TheVariants.{Keyr, ModeKeyr}
 
 -- What a report says: its refusal number, or 0; the step that it names, or 0; the readings that it counts, or 0.
 
@@ -68,7 +64,7 @@ mode_read r = r.sckmod % 4
 
 -- A startup at a step, with so many unmet readings of its wait and so many readings used.
 abbrev pub going : Config → Fields → ℕ → ℕ → ℕ → Startup
-going c f step unmet used = record { config = c; fields = f; step = step; unmet = unmet; used = used; phase = Going }
+going c f step unmet used = record { config = c; fields = f; step = step; unmet = unmet; used = used; over = None }
 
 -- Answered 28 and handed back as it was.
 abbrev pub handed_back : Startup → Stepped
@@ -81,7 +77,7 @@ moved next s f used = record { startup = going s.config f next 0 used; report = 
 -- A startup that is over, with its last answer.
 abbrev pub ended : Startup → Fields → ℕ → ℕ → Report → Stepped
 ended s f unmet used last =
-    record { startup = record { config = s.config; fields = f; step = s.step; unmet = unmet; used = used; phase = Over last }; report = last }
+    record { startup = record { config = s.config; fields = f; step = s.step; unmet = unmet; used = used; over = Some last }; report = last }
 
 -- What a call of a startup that is not over comes to.
 pub data Event : Type 0 where
@@ -116,15 +112,15 @@ abbrev pub waited_of : ℕ → ℕ → Bool → Event
 waited_of limit unmet ok = cond (leb limit unmet) back (cond ok met (cond (ltb (unmet + 1) limit) waiting missed))
 
 -- One step's work done or one reading used.
-abbrev pub event_of : ℕ → Startup → Reading → Work → Event
-event_of limit s r (Wrote f) = wrote f
-event_of limit s r (Waits ok) = waited_of limit s.unmet ok
-event_of limit s r (Reads mode) = cond (eqb (mode_read r) mode) met misread
-event_of limit s r (Compares same) = compared same
-event_of limit s r NotListed = back
+abbrev pub event_of : ℕ → Startup → Reading → Option Work → Event
+event_of limit s r (Some (Wrote f)) = wrote f
+event_of limit s r (Some (Waits ok)) = waited_of limit s.unmet ok
+event_of limit s r (Some (Reads mode)) = cond (eqb (mode_read r) mode) met misread
+event_of limit s r (Some (Compares same)) = compared same
+event_of limit s r None = back
 
 -- Its step is not listed or is skipped, or its used readings pass 8,000,001: 28.
-unfoldable pub call_of : ℕ → Startup → Reading → Bool → Work → Event
+unfoldable pub call_of : ℕ → Startup → Reading → Bool → Option Work → Event
 call_of limit s r listed work = cond (not listed || ltb 8000001 s.used) back (event_of limit s r work)
 
 -- The check having promised these clocks.
@@ -136,10 +132,10 @@ abbrev pub seeing : Startup → Reading → Fields
 seeing s r = with_seen s.fields (seen_of r)
 
 -- After the end a call changes nothing and repeats the last answer; not over, a configuration that is not accepted is answered 28.
-abbrev pub step_by : Answer ClockRecord → Startup → Reading → Phase → Stepped
-step_by check s r (Over last) = record { startup = s; report = last }
-step_by (refuses n) s r Going = handed_back s
-step_by (gives x) s r Going = came_to (next_of s.config s.step) s (seeing s r) (comes_to x.clocks s r)
+abbrev pub step_by : Answer ClockRecord → Startup → Reading → Option Report → Stepped
+step_by check s r (Some last) = record { startup = s; report = last }
+step_by (refuses n) s r None = handed_back s
+step_by (gives x) s r None = came_to (next_of s.config s.step) s (seeing s r) (comes_to x.clocks s r)
 
 -- A startup that is over, asked again, its fields being in width.
 abbrev pub repeated_of : Startup → Report → Stepped
@@ -148,7 +144,7 @@ repeated_of s last = cond (not (named_of s.config)) (handed_back s) (record { st
 -- One call: 28 for a code before anything else, without a name in the configuration or too wide in the fields.
 unfoldable pub step_of : Startup → Reading → Stepped
 step_of s r =
-    cond (not (named_of s.config) || not (in_width s.fields)) (handed_back s) (step_by (check_of s.config) s r s.phase)
+    cond (not (named_of s.config) || not (in_width s.fields)) (handed_back s) (step_by (check_of s.config) s r s.over)
 
 -- Starting: 28 for a code, then the check's refusals; it works no step.
 unfoldable pub start_of : Config → Fields → Answer Startup
@@ -157,23 +153,7 @@ start_of c earlier = do
   check_of c
   gives (going c earlier 1 0 0)
 
-abbrev pub started_says : Started → Answer Startup
-started_says (started.Begun s) = gives s
-started_says (started.NotStarted n) = refuses n
-
 -- Nothing is left open: two results that a promise allows are equal.
-
-started_of : Answer Startup → Started
-started_of (gives s) = started.Begun s
-started_of (refuses n) = started.NotStarted n
-
-started_again : (r : Started) → started_of (started_says r) ≡ r
-unfolding started_of
-started_again (started.Begun s) = refl
-started_again (started.NotStarted n) = refl
-
-pub started_settled : (r s : Started) → started_says r ≡ started_says s → r ≡ s
-started_settled = settled_by started_says started_of started_again
 
 pub stepped_settled : (s : Startup) (r : Reading) (x y : Stepped) → x ≡ step_of s r → y ≡ step_of s r → x ≡ y
 stepped_settled s r x y e g = e ∙ sym g
@@ -198,10 +178,10 @@ call_bound_of c = do
 abbrev pub keys : List FlashKey
 keys = Keyr 0x45670123 ∷ Keyr 0xCDEF89AB ∷ ModeKeyr 0x45670123 ∷ ModeKeyr 0xCDEF89AB ∷ []
 
-abbrev key_at : List FlashKey → ℕ → FlashKey
-key_at [] place = NoKey
-key_at (key ∷ l) zero = key
+abbrev key_at : List FlashKey → ℕ → Option FlashKey
+key_at [] place = None
+key_at (key ∷ l) zero = Some key
 key_at (key ∷ l) (suc place) = key_at l place
 
-unfoldable pub key_of : ℕ → FlashKey
+unfoldable pub key_of : ℕ → Option FlashKey
 key_of place = key_at keys place

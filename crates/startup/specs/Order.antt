@@ -1,6 +1,6 @@
 -- The order of refusals, as flat lists: starting, a call of a startup that is not over, and the waits and calls owed.
 -- The theorems stand in proofs/Order.antt. Assumes nothing.
-use Rattle.std.specs.Prelude.{◌+◌, Bool, true, false, cond, not, ◌&&◌, List, [], ◌∷◌, eqb, ltb, leb}
+use Rattle.std.specs.Prelude.{◌+◌, Bool, true, false, cond, not, ◌&&◌, Option, None, Some, List, [], ◌∷◌, eqb, ltb, leb}
 use Rattle.answer.specs.Answer.{Answer, gives, refuses}
 use Rattle.answer.specs.Order.{Test}
 use Rattle.tree.specs.declared.Clocks.{Clocks}
@@ -10,7 +10,7 @@ use Rattle.image.specs.declared.Fields.{Fields}
 use Rattle.image.specs.Image.{in_width}
 use Rattle.startup.specs.Steps.{listed_of, work_of}
 use Rattle.startup.specs.declared.steps.Work.{Work}
-use Rattle.startup.specs.declared.steps.Work.TheVariants.{Wrote, Waits, Reads, Compares, NotListed}
+use Rattle.startup.specs.declared.steps.Work.TheVariants.{Wrote, Waits, Reads, Compares}
 use Rattle.startup.specs.declared.Reading.{Reading}
 use Rattle.startup.specs.declared.Report.{Report}
 use Rattle.startup.specs.declared.Startup.{Startup}
@@ -19,43 +19,43 @@ use Rattle.startup.specs.Call.{number_of, seen_of, mode_read}
 -- What a step does: it is not in the list; it waits; it waits and the reading doesn't meet it; it reads a flash mode that differs; it finds clocks that
 -- differ.
 
-abbrev is_none : Work → Bool
-is_none (Wrote f) = false
-is_none (Waits ok) = false
-is_none (Reads mode) = false
-is_none (Compares same) = false
-is_none NotListed = true
+abbrev is_none : Option Work → Bool
+is_none (Some (Wrote f)) = false
+is_none (Some (Waits ok)) = false
+is_none (Some (Reads mode)) = false
+is_none (Some (Compares same)) = false
+is_none None = true
 
-abbrev is_wait : Work → Bool
-is_wait (Wrote f) = false
-is_wait (Waits ok) = true
-is_wait (Reads mode) = false
-is_wait (Compares same) = false
-is_wait NotListed = false
+abbrev is_wait : Option Work → Bool
+is_wait (Some (Wrote f)) = false
+is_wait (Some (Waits ok)) = true
+is_wait (Some (Reads mode)) = false
+is_wait (Some (Compares same)) = false
+is_wait None = false
 
-abbrev is_unmet : Work → Bool
-is_unmet (Wrote f) = false
-is_unmet (Waits ok) = not ok
-is_unmet (Reads mode) = false
-is_unmet (Compares same) = false
-is_unmet NotListed = false
+abbrev is_unmet : Option Work → Bool
+is_unmet (Some (Wrote f)) = false
+is_unmet (Some (Waits ok)) = not ok
+is_unmet (Some (Reads mode)) = false
+is_unmet (Some (Compares same)) = false
+is_unmet None = false
 
-abbrev is_misread : Reading → Work → Bool
-is_misread r (Wrote f) = false
-is_misread r (Waits ok) = false
-is_misread r (Reads mode) = not (eqb (mode_read r) mode)
-is_misread r (Compares same) = false
-is_misread r NotListed = false
+abbrev is_misread : Reading → Option Work → Bool
+is_misread r (Some (Wrote f)) = false
+is_misread r (Some (Waits ok)) = false
+is_misread r (Some (Reads mode)) = not (eqb (mode_read r) mode)
+is_misread r (Some (Compares same)) = false
+is_misread r None = false
 
-abbrev is_differing : Work → Bool
-is_differing (Wrote f) = false
-is_differing (Waits ok) = false
-is_differing (Reads mode) = false
-is_differing (Compares same) = not same
-is_differing NotListed = false
+abbrev is_differing : Option Work → Bool
+is_differing (Some (Wrote f)) = false
+is_differing (Some (Waits ok)) = false
+is_differing (Some (Reads mode)) = false
+is_differing (Some (Compares same)) = not same
+is_differing None = false
 
 -- A call, by what its step does: 28, 21, 22, 23.
-abbrev pub work_tests : Startup → Reading → Bool → Work → List Test
+abbrev pub work_tests : Startup → Reading → Bool → Option Work → List Test
 work_tests s r listed work =
     (28, not listed) ∷  -- its step is not listed or is skipped
     (28, ltb 8000001 s.used) ∷  -- its used readings pass 8,000,001

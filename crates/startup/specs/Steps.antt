@@ -1,15 +1,16 @@
 -- The startup of document 01, "Startup steps", as data: its 28 steps, what each does, and which of them a configuration has.
 -- Assumes nothing.
-use Rattle.std.specs.Prelude.{ℕ, zero, suc, Bool, true, false, not, ◌&&◌, List, [], ◌∷◌, eqb, drop}
+use Rattle.std.specs.Prelude.{ℕ, zero, suc, Bool, true, false, not, ◌&&◌, Option, None, Some, List, [], ◌∷◌, eqb, drop}
 use Rattle.answer.specs.Answer.{Answer, gives, refuses}
 use Rattle.tree.specs.declared.Clocks.{Clocks}
+use Rattle.tree.specs.Tree.{hse_frequency_of}
 use Rattle.v4x7.specs.declared.Config.{Config}
 use Rattle.image.specs.declared.Seen.{Seen}
 use Rattle.image.specs.declared.Fields.{Fields}
 use Rattle.decoder.specs.Decode.{decode_of}
-use Rattle.v4x7.specs.Check.{has_hse, has_usb_hs, has_main, hse_frequency_of}
+use Rattle.v4x7.specs.Check.{has_hse, has_usb_hs, has_main}
 use Rattle.startup.specs.declared.steps.Work.{Work}
-use Rattle.startup.specs.declared.steps.Work.TheVariants.{Wrote, Waits, Reads, Compares, NotListed}
+use Rattle.startup.specs.declared.steps.Work.TheVariants.{Wrote, Waits, Reads, Compares}
 use Rattle.startup.specs.Writes.{hsi_on, switch, gate, all_off, bypass, hse_on, eth_on, usb_hs_source, usb_hs_on, main_source, main_on, mode_of, flash_mode, sys_pll, buses, from_usb_hs, adc_divisor}
 
 -- What a step does: it writes fields, waits for a reading, reads SCKMOD back once, or compares the clocks.
@@ -123,16 +124,16 @@ step_after k (false ∷ l) = step_after (suc k) l
 unfoldable pub next_of : Config → ℕ → ℕ
 next_of c k = step_after k (drop k (parts c))
 
--- What comes of a step, by the fields and a reading.
+-- What comes of a step, by the fields and a reading; of a number that no step has, nothing.
 abbrev pub done_of : Op → Fields → Seen → Work
 done_of (write w) f s = Wrote (w f)
 done_of (wait p) f s = Waits (p s)
 done_of (flash m) f s = Reads m
 done_of (compare t) f s = Compares (t f)
 
-abbrev pub work_in : List Entry → Fields → Seen → Work
-work_in [] f s = NotListed
-work_in (entry b o ∷ l) f s = done_of o f s
+abbrev pub work_in : List Entry → Fields → Seen → Option Work
+work_in [] f s = None
+work_in (entry b o ∷ l) f s = Some (done_of o f s)
 
-unfoldable pub work_of : Config → Clocks → ℕ → Fields → Seen → Work
+unfoldable pub work_of : Config → Clocks → ℕ → Fields → Seen → Option Work
 work_of c promised k f s = work_in (from k (steps c promised)) f s

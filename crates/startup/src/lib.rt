@@ -5,16 +5,15 @@
 mod steps;
 
 ghost use Rattle.std.specs.Prelude.{◌≡◌, cond, ltb, ℕ, ◌+◌, ◌≤◌, ◌<◌};
-ghost use Rattle.answer.specs.Said.{reply_says};
-ghost use Rattle.startup.specs.Writes.{with_seen};
+ghost use Rattle.answer.specs.Said.{says};
 ghost use Rattle.startup.specs.Steps.{next_of, work_of};
-ghost use Rattle.startup.specs.Call.{number_of, named_step, seen_of, going, handed_back, moved, ended, met, waiting, missed, misread, compared, came_to, waited_of, event_of, seeing, repeated_of, step_of, start_of, started_says, mask_of, waits_owed_of, call_bound_of, key_of};
+ghost use Rattle.startup.specs.Call.{number_of, named_step, seen_of, going, handed_back, moved, ended, met, waiting, missed, misread, compared, came_to, waited_of, event_of, seeing, repeated_of, step_of, start_of, mask_of, waits_owed_of, call_bound_of, key_of};
 
-use answer::Reply;
+use answer::Refusal;
 use image::{Fields, Seen};
 use steps::{Work, listed, perform};
 use tree::Clocks;
-use v4x7::{Checked, Config, refused};
+use v4x7::Config;
 
 // Of a wait's readings, the one that fails it.
 const READINGS: u32 = 1_000_000;
@@ -23,14 +22,15 @@ const READINGS: u32 = 1_000_000;
 const MOST_READINGS: u32 = 8_000_001;
 
 // What the host read from the chip: the ready bits and SWS, and SCKMOD. Of these two the low two bits count.
-#[derive(Clone, Copy)]
+#[derive(Clone, Copy, Debug, PartialEq, Eq)]
 pub struct Reading {
     pub seen: Seen,
     pub sckmod: u8,
 }
 
-// What came of a call: the step, and how many readings are used by now.
-#[derive(Clone, Copy)]
+// What came of a call: the step, and how many readings are used by now. A refusal is its number here, and no `Refusal`: `Startup::step` takes and gives back any
+// report, also one that no call made (`step_of`).
+#[derive(Clone, Copy, Debug, PartialEq, Eq)]
 pub enum Report {
     // The step is worked: written, or its reading found right. At 19 the host writes the keys.
     Worked { step: u8, used: u32 },
@@ -49,15 +49,8 @@ pub fn number(report: Report) -> u8
     ensures { result ≡ number_of report }
 {
     match report {
-        Report::Worked { step: _, used: _ } => 0,
-        Report::Waiting { step: _, used: _ } => 0,
-        Report::Running { step: _, used: _ } => 0,
-        Report::Failed {
-            number,
-            step: _,
-            used: _,
-        } => number,
-        Report::Refused(n) => n,
+        Report::Worked { .. } | Report::Waiting { .. } | Report::Running { .. } => 0,
+        Report::Failed { number, .. } | Report::Refused(number) => number,
     }
 }
 
@@ -66,26 +59,15 @@ pub fn named_step(report: Report) -> u8
     ensures { result ≡ named_step report }
 {
     match report {
-        Report::Worked { step, used: _ } => step,
-        Report::Waiting { step, used: _ } => step,
-        Report::Running { step, used: _ } => step,
-        Report::Failed {
-            number: _,
-            step,
-            used: _,
-        } => step,
+        Report::Worked { step, .. }
+        | Report::Waiting { step, .. }
+        | Report::Running { step, .. }
+        | Report::Failed { step, .. } => step,
         Report::Refused(_) => 0,
     }
 }
 
-#[derive(Clone, Copy)]
-pub enum Phase {
-    Going,
-    // Over, with the last report.
-    Over(Report),
-}
-
-#[derive(Clone, Copy)]
+#[derive(Clone, Copy, Debug, PartialEq, Eq)]
 pub struct Startup {
     pub config: Config,
     pub fields: Fields,
@@ -95,76 +77,66 @@ pub struct Startup {
     pub unmet: u32,
     // All readings used.
     pub used: u32,
-    pub phase: Phase,
+    // The last report, where the startup is over.
+    pub over: Option<Report>,
 }
 
-#[derive(Clone, Copy)]
+#[derive(Clone, Copy, Debug, PartialEq, Eq)]
 pub struct Stepped {
     pub startup: Startup,
     pub report: Report,
 }
 
-#[derive(Clone, Copy)]
-pub enum Started {
-    Begun(Startup),
-    NotStarted(u8),
-}
-
 // A key that the host writes at step 19, and to which register.
-#[derive(Clone, Copy)]
+#[derive(Clone, Copy, Debug, PartialEq, Eq)]
 pub enum FlashKey {
     Keyr(u32),
     ModeKeyr(u32),
-    NoKey,
 }
 
 // The keys of step 19, in their order: places 0 to 3.
-pub fn flash_key(place: u8) -> FlashKey
+#[tactic(auto, using(crate::proofs::Cases::no_key), unfolding(crate::specs::Call::key_of))]
+pub fn flash_key(place: u8) -> Option<FlashKey>
     ensures { result ≡ key_of place }
 {
     match place {
-        0 => FlashKey::Keyr(0x4567_0123),
-        1 => FlashKey::Keyr(0xcdef_89ab),
-        2 => FlashKey::ModeKeyr(0x4567_0123),
-        3 => FlashKey::ModeKeyr(0xcdef_89ab),
-        _ => FlashKey::NoKey,
+        0 => Some(FlashKey::Keyr(0x4567_0123)),
+        1 => Some(FlashKey::Keyr(0xcdef_89ab)),
+        2 => Some(FlashKey::ModeKeyr(0x4567_0123)),
+        3 => Some(FlashKey::ModeKeyr(0xcdef_89ab)),
+        _ => None,
     }
-}
-
-fn bit(on: bool, weight: u32) -> u32
-    ensures { (result ≡ cond on weight 0) × (result ≤ weight) }
-{
-    if on { weight } else { 0 }
 }
 
 // What the startup turns on, a bit each: HSE at step 9, ETH PLL at 11, USBHS PLL at 14, main PLL at 17.
+#[tactic(auto, using(crate::proofs::Cases::bit_le, crate::proofs::Cases::mask_is))]
 fn mask(c: Config) -> u32
     ensures { result ≡ mask_of c }
 {
-    bit(listed(c, 9), 8) + bit(listed(c, 11), 4) + bit(listed(c, 14), 2) + bit(listed(c, 17), 1)
+    8 * u32::from(listed(c, 9))
+        + 4 * u32::from(listed(c, 11))
+        + 2 * u32::from(listed(c, 14))
+        + u32::from(listed(c, 17))
 }
 
 // How many waits a configuration's startup has: four, and one for each bit of the mask. 28 for a code without a name.
-pub fn waits_owed(c: Config) -> Reply
-    ensures { reply_says result ≡ waits_owed_of c }
+#[tactic(auto, using(crate::specs::Owed::ones_turned_on, crate::specs::Owed::four_at_most), unfolding(crate::specs::Call::waits_owed_of))]
+pub fn waits_owed(c: Config) -> Result<u32, Refusal>
+    ensures { says result ≡ waits_owed_of c }
 {
     if !v4x7::named_codes(c) {
-        return Reply::Refused(answer::CODE_NOT_ALLOWED);
+        return Err(Refusal::CodeNotAllowed);
     }
-    let waits = 4 + u32::count_ones(mask(c));
-    Reply::Is(waits)
+    Ok(4 + mask(c).count_ones())
 }
 
 // The startup is over within so many calls. 28 for a code without a name.
-pub fn call_bound(c: Config) -> Reply
-    ensures { reply_says result ≡ call_bound_of c }
+#[tactic(auto, using(crate::specs::Owed::owed, crate::specs::Owed::four_at_most), unfolding(crate::specs::Call::call_bound_of))]
+pub fn call_bound(c: Config) -> Result<u32, Refusal>
+    ensures { says result ≡ call_bound_of c }
 {
-    let owed = waits_owed(c);
-    let Reply::Is(waits) = owed else {
-        return owed;
-    };
-    let calls = READINGS * waits + 20;
-    Reply::Is(calls)
+    let waits = waits_owed(c)?;
+    Ok(READINGS * waits + 20)
 }
 
 // A reading's ready bits and SWS.
@@ -172,17 +144,10 @@ fn seen_of(reading: Reading) -> Seen
     ensures { result ≡ seen_of reading }
 {
     let sws = reading.seen.sws % 4;
-    let mut seen = reading.seen;
-    seen.sws = sws;
-    seen
-}
-
-fn with_seen(fields: Fields, seen: Seen) -> Fields
-    ensures { result ≡ with_seen fields seen }
-{
-    let mut f = fields;
-    f.seen = seen;
-    f
+    Seen {
+        sws,
+        ..reading.seen
+    }
 }
 
 // A startup that no starting leads to is handed back as it was.
@@ -191,84 +156,81 @@ fn handed_back(s: Startup) -> Stepped
 {
     Stepped {
         startup: s,
-        report: Report::Refused(answer::CODE_NOT_ALLOWED),
+        report: Report::Refused(Refusal::CodeNotAllowed.number()),
     }
 }
 
 // The next step whose part is there.
+#[tactic(auto, using(crate::proofs::Shape::next_here, crate::proofs::Shape::next_later, crate::proofs::Shape::next_end))]
 fn next(config: Config, step: u8) -> u8
     ensures { result ≡ next_of config step }
 {
-    let mut n = step;
-    while n < 28 {
-        n += 1;
+    for before in step..28 {
+        let n = before + 1;
         if listed(config, n) {
             return n;
         }
     }
-    n
+    step.max(28)
 }
 
 // The step is worked: on to the one after it, with these fields and so many readings used.
 fn onward(after: u8, s: Startup, fields: Fields, used: u32) -> Stepped
     ensures { result ≡ moved after s fields used }
 {
-    let config = s.config;
     let step = s.step;
     Stepped {
         startup: Startup {
-            config,
             fields,
             step: after,
             unmet: 0,
             used,
-            phase: Phase::Going,
+            over: None,
+            ..s
         },
         report: Report::Worked { step, used },
     }
 }
 
+// The startup is over, with these fields and counts, by this report: the parts of `ended`, which a struct would name a third time.
 fn over(s: Startup, fields: Fields, unmet: u32, used: u32, last: Report) -> Stepped
     ensures { result ≡ ended s fields unmet used last }
 {
-    let config = s.config;
     Stepped {
         startup: Startup {
-            config,
             fields,
-            step: s.step,
             unmet,
             used,
-            phase: Phase::Over(last),
+            over: Some(last),
+            ..s
         },
         report: last,
     }
 }
 
-// A reading did not meet the step's wait, which fails at the last of its readings.
+// A reading did not meet the step's wait, which fails at the last of its readings. That its readings are few is asked here and of the two below, and is no
+// invariant of `Startup`: `Startup::step` takes any, and refuses more by 28.
 fn unmet(s: Startup, fields: Fields) -> Stepped
     requires { (s.unmet < 1000000) × (s.used ≤ 8000001) }
     ensures { (after : ℕ) → result ≡ came_to after s fields (cond (ltb (s.unmet + 1) 1000000) waiting missed) }
 {
-    let config = s.config;
     let step = s.step;
     let unmet = s.unmet + 1;
     let used = s.used + 1;
     if unmet < READINGS {
         return Stepped {
             startup: Startup {
-                config,
                 fields,
-                step,
                 unmet,
                 used,
-                phase: Phase::Going,
+                over: None,
+                ..s
             },
             report: Report::Waiting { step, used },
         };
     }
     let last = Report::Failed {
-        number: answer::WAIT_FAILED,
+        number: Refusal::WaitFailed.number(),
         step,
         used,
     };
@@ -292,14 +254,13 @@ fn read_back(after: u8, s: Startup, fields: Fields, right: bool) -> Stepped
     requires { s.used ≤ 8000001 }
     ensures { result ≡ came_to after s fields (cond right met misread) }
 {
-    let step = s.step;
     let used = s.used + 1;
     if right {
         return onward(after, s, fields, used);
     }
     let last = Report::Failed {
-        number: answer::FLASH_MODE_DIFFERS,
-        step,
+        number: Refusal::FlashModeDiffers.number(),
+        step: s.step,
         used,
     };
     over(s, fields, s.unmet, used, last)
@@ -308,19 +269,15 @@ fn read_back(after: u8, s: Startup, fields: Fields, right: bool) -> Stepped
 fn compare(s: Startup, same: bool) -> Stepped
     ensures { result ≡ came_to (next_of s.config s.step) s s.fields (compared same) }
 {
-    let fields = s.fields;
-    let step = s.step;
-    let used = s.used;
-    if same {
-        return over(s, fields, s.unmet, used, Report::Running { step, used });
-    }
-    over(
-        s,
-        fields,
-        s.unmet,
-        used,
-        Report::Refused(answer::CLOCKS_DIFFER),
-    )
+    let last = if same {
+        Report::Running {
+            step: s.step,
+            used: s.used,
+        }
+    } else {
+        Report::Refused(Refusal::ClocksDiffer.number())
+    };
+    over(s, s.fields, s.unmet, s.used, last)
 }
 
 // One step's work done or one reading used, the check having promised these clocks.
@@ -328,21 +285,15 @@ fn work(s: Startup, promised: Clocks, reading: Reading) -> Stepped
     requires { s.used ≤ 8000001 }
     ensures { result ≡ came_to (next_of s.config s.step) s (seeing s reading) (event_of 1000000 s reading (work_of s.config promised s.step s.fields (seen_of reading))) }
 {
-    let config = s.config;
-    let fields = s.fields;
     let seen = seen_of(reading);
-    let after = next(config, s.step);
-    match perform(config, promised, s.step, fields, seen) {
-        Work::Wrote(written) => onward(after, s, written, s.used),
-        Work::Waits(met) => waited(after, s, with_seen(fields, seen), met),
-        Work::Reads(mode) => read_back(
-            after,
-            s,
-            with_seen(fields, seen),
-            reading.sckmod % 4 == mode,
-        ),
-        Work::Compares(same) => compare(s, same),
-        Work::NotListed => handed_back(s),
+    let fields = Fields { seen, ..s.fields };
+    let after = next(s.config, s.step);
+    match perform(s.config, promised, s.step, s.fields, seen) {
+        Some(Work::Wrote(written)) => onward(after, s, written, s.used),
+        Some(Work::Waits(met)) => waited(after, s, fields, met),
+        Some(Work::Reads(mode)) => read_back(after, s, fields, reading.sckmod % 4 == mode),
+        Some(Work::Compares(same)) => compare(s, same),
+        None => handed_back(s),
     }
 }
 
@@ -350,8 +301,7 @@ fn work(s: Startup, promised: Clocks, reading: Reading) -> Stepped
 fn repeated(s: Startup, last: Report) -> Stepped
     ensures { result ≡ repeated_of s last }
 {
-    let config = s.config;
-    if !v4x7::named_codes(config) {
+    if !v4x7::named_codes(s.config) {
         return handed_back(s);
     }
     Stepped {
@@ -370,44 +320,39 @@ fn begun(config: Config, fields: Fields) -> Startup
         step: 1,
         unmet: 0,
         used: 0,
-        phase: Phase::Going,
+        over: None,
     }
 }
 
 impl Startup {
     // Starting: 28 for a code, then the check's refusals; it works no step.
-    pub fn start(config: Config, earlier: Fields) -> Started
-        ensures { started_says result ≡ start_of config earlier }
+    #[tactic(auto, unfolding(crate::specs::Call::start_of))]
+    pub fn start(config: Config, earlier: Fields) -> Result<Startup, Refusal>
+        ensures { says result ≡ start_of config earlier }
     {
         if !image::in_width(earlier) {
-            return Started::NotStarted(answer::CODE_NOT_ALLOWED);
+            return Err(Refusal::CodeNotAllowed);
         }
-        let checked = config.clocks();
-        let Checked::Accepted(_) = checked else {
-            return Started::NotStarted(refused(checked));
-        };
-        Started::Begun(begun(config, earlier))
+        config.clocks()?;
+        Ok(begun(config, earlier))
     }
 
     // One call: one step's work done or one reading used.
+    #[tactic(auto, using(crate::proofs::Cases::step_over, crate::proofs::Cases::step_going), unfolding(crate::specs::Call::step_of, crate::specs::Call::call_of))]
     pub fn step(self, reading: Reading) -> Stepped
         ensures { result ≡ step_of self reading }
     {
-        let config = self.config;
-        let fields = self.fields;
-        let phase = self.phase;
-        if !image::in_width(fields) {
+        if !image::in_width(self.fields) {
             return handed_back(self);
         }
-        if let Phase::Over(last) = phase {
+        if let Some(last) = self.over {
             return repeated(self, last);
         }
         // The check refuses a code without a name.
-        let checked = config.clocks();
-        let Checked::Accepted(accepted) = checked else {
+        let Ok(accepted) = self.config.clocks() else {
             return handed_back(self);
         };
-        if !listed(config, self.step) | (MOST_READINGS < self.used) {
+        if !listed(self.config, self.step) | (MOST_READINGS < self.used) {
             return handed_back(self);
         }
         work(self, accepted.clocks, reading)

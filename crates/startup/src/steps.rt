@@ -1,19 +1,16 @@
 // The 28 steps of the V4x7 startup: which of them a configuration has, and what each writes, waits for, reads back or compares. The startup has tested
 // the codes that these take.
-ghost use Rattle.std.specs.Prelude.{◌≡◌, true, false, ◌<◌};
-ghost use Rattle.tree.specs.declared.Clocks.{Clocks};
+ghost use Rattle.std.specs.Prelude.{◌≡◌};
 ghost use Rattle.startup.specs.Writes.{hsi_on, switch, gate, all_off, bypass, hse_on, eth_on, reference, code_of, usb_hs_source, usb_hs_on, main_source, main_on, mode_of, flash_mode, sys_pll, buses, from_usb_hs, adc_divisor};
-ghost use Rattle.v4x7.specs.Check.{has_hse, has_usb_hs, has_main};
-ghost use Rattle.startup.specs.Steps.{all_clear, same_clocks, agrees_of, listed_of, work_of};
+ghost use Rattle.startup.specs.Steps.{all_clear, agrees_of, listed_of, work_of};
 
-use answer::Reply;
 use image::{Fields, Seen};
-use tree::{Buses, Clocks};
-use v4x7::{AdcClockSource, Config, HsPll, Hse, Pll};
+use tree::{Clocks, Hse};
+use v4x7::{AdcClockSource, Config};
 use v4x7_rules::HSI_FREQUENCY;
 
 // What comes of a step.
-#[derive(Clone, Copy)]
+#[derive(Clone, Copy, Debug, PartialEq, Eq)]
 pub enum Work {
     // The fields, with the step's writes done.
     Wrote(Fields),
@@ -23,100 +20,62 @@ pub enum Work {
     Reads(u8),
     // The comparison after the switch, and whether the clocks agree.
     Compares(bool),
-    // No step has this number.
-    NotListed,
-}
-
-fn has_hse(hse: Hse) -> bool
-    ensures { result ≡ has_hse hse }
-{
-    match hse {
-        Hse::Absent => false,
-        Hse::Present { bypass: _, freq: _ } => true,
-    }
-}
-
-fn has_hspll(hspll: HsPll) -> bool
-    ensures { result ≡ has_usb_hs hspll }
-{
-    match hspll {
-        HsPll::Absent => false,
-        HsPll::From(_) => true,
-    }
-}
-
-fn has_pll(pll: Pll) -> bool
-    ensures { result ≡ has_main pll }
-{
-    match pll {
-        Pll::Absent => false,
-        Pll::Mul(_) => true,
-    }
 }
 
 // Whether USBHS feeds the ADC.
 fn from_usbhs(adc: AdcClockSource) -> bool
     ensures { result ≡ from_usb_hs adc }
 {
-    match adc {
-        AdcClockSource::Hclk => false,
-        AdcClockSource::UsbHsPll { divisor: _ } => true,
-    }
+    matches!(adc, AdcClockSource::UsbHsPll { .. })
 }
 
 // Whether a step is listed and its part is there: steps of absent parts are skipped.
+#[tactic(auto, using(crate::proofs::Shape::listed_by), unfolding(crate::specs::Steps::listed_of))]
 pub fn listed(config: Config, step: u8) -> bool
     ensures { result ≡ listed_of config step }
 {
-    let hse = config.hse;
-    let hspll = config.hspll;
-    let pll = config.pll;
-    let adc = config.adc_src;
     match step {
-        8..=10 => has_hse(hse),
+        1..=7 | 19..=23 | 26..=28 => true,
+        8..=10 => config.hse.is_some(),
         11..=12 => config.ethpll,
-        13..=15 => has_hspll(hspll),
-        16..=18 => has_pll(pll),
-        24 => from_usbhs(adc),
+        13..=15 => config.hspll.is_some(),
+        16..=18 => config.pll.is_some(),
+        24 => from_usbhs(config.adc_src),
         25 => config.sys == 2,
-        _ => (1 <= step) & (step <= 28),
+        _ => false,
     }
 }
 
-fn hsi_on(f: Fields) -> Fields
+fn hsi_on(mut f: Fields) -> Fields
     ensures { result ≡ hsi_on f }
 {
-    let mut g = f;
-    g.ctlr.hsion = true;
-    g
+    f.ctlr.hsion = true;
+    f
 }
 
-fn switch_to(f: Fields, sw: u8) -> Fields
+fn switch_to(mut f: Fields, sw: u8) -> Fields
     ensures { result ≡ switch sw f }
 {
-    let mut g = f;
-    g.cfgr0.sw = sw;
-    g
+    f.cfgr0.sw = sw;
+    f
 }
 
-fn syspll_gate(f: Fields, on: bool) -> Fields
+fn syspll_gate(mut f: Fields, on: bool) -> Fields
     ensures { result ≡ gate on f }
 {
-    let mut g = f;
-    g.cfgr2.syspll_gate = on;
-    g
+    f.cfgr2.syspll_gate = on;
+    f
 }
 
-fn all_off(f: Fields) -> Fields
+fn all_off(mut f: Fields) -> Fields
     ensures { result ≡ all_off f }
 {
-    let mut g = f;
-    g.ctlr.csson = false;
-    g.ctlr.pllon = false;
-    g.ctlr.usbhs_pllon = false;
-    g.ctlr.eth_pllon = false;
-    g.ctlr.hseon = false;
-    g
+    f.ctlr.csson = false;
+    f.ctlr.pllon = false;
+    f.ctlr.usbhs_pllon = false;
+    f.ctlr.eth_pllon = false;
+    f.ctlr.hseon = false;
+    f
 }
 
 fn all_clear(s: Seen) -> bool
@@ -125,195 +84,155 @@ fn all_clear(s: Seen) -> bool
     !s.pllrdy & !s.usbhs_pllrdy & !s.eth_pllrdy & !s.hserdy
 }
 
-fn hse_bypass(f: Fields, hse: Hse) -> Fields
+fn hse_bypass(mut f: Fields, hse: Option<Hse>) -> Fields
     ensures { result ≡ bypass hse f }
 {
-    let Hse::Present { bypass, freq: _ } = hse else {
-        return f;
-    };
-    let mut g = f;
-    g.ctlr.hsebyp = bypass;
-    g
+    if let Some(crystal) = hse {
+        f.ctlr.hsebyp = crystal.bypass;
+    }
+    f
 }
 
-fn hse_on(f: Fields) -> Fields
+fn hse_on(mut f: Fields) -> Fields
     ensures { result ≡ hse_on f }
 {
-    let mut g = f;
-    g.ctlr.hseon = true;
-    g
+    f.ctlr.hseon = true;
+    f
 }
 
-fn eth_on(f: Fields) -> Fields
+fn eth_on(mut f: Fields) -> Fields
     ensures { result ≡ eth_on f }
 {
-    let mut g = f;
-    g.ctlr.eth_pllon = true;
-    g
+    f.ctlr.eth_pllon = true;
+    f
 }
 
 // The frequency that the USBHS PLL gets.
-fn usbhs_reference(hse: Hse, source: u8) -> u32
+fn usbhs_reference(hse: Option<Hse>, source: u8) -> u32
     ensures { result ≡ reference hse source }
 {
     if source != 0 {
         return HSI_FREQUENCY;
     }
-    match hse {
-        Hse::Absent => 0,
-        Hse::Present { bypass: _, freq } => freq,
-    }
+    tree::hse_frequency(hse).unwrap_or(0)
 }
 
 // The code of that frequency. An accepted configuration has one.
-fn usbhs_code(hse: Hse, source: u8) -> u8
+#[tactic(auto, using(crate::proofs::Codes::code_small))]
+fn usbhs_code(hse: Option<Hse>, source: u8) -> u8
     ensures { result ≡ code_of hse source }
 {
-    match v4x7_rules::reference_code(usbhs_reference(hse, source)) {
-        Reply::Is(code) => code as u8,
-        Reply::Refused(_) => 0,
-    }
+    let code = v4x7_rules::reference_code(usbhs_reference(hse, source));
+    // It fits, as is proved; `try_from` would have an error that never comes.
+    code.unwrap_or(0) as u8
 }
 
-fn usbhs_source(f: Fields, hse: Hse, hspll: HsPll) -> Fields
+fn usbhs_source(mut f: Fields, hse: Option<Hse>, hspll: Option<u8>) -> Fields
     ensures { result ≡ usb_hs_source hse hspll f }
 {
-    let HsPll::From(source) = hspll else {
-        return f;
-    };
-    let code = usbhs_code(hse, source);
-    let mut g = f;
-    g.cfgr2.usbhspllsrc = source;
-    g.cfgr2.usbhspllclk = code;
-    g
+    if let Some(source) = hspll {
+        f.cfgr2.usbhspllsrc = source;
+        f.cfgr2.usbhspllclk = usbhs_code(hse, source);
+    }
+    f
 }
 
-fn usbhs_on(f: Fields) -> Fields
+fn usbhs_on(mut f: Fields) -> Fields
     ensures { result ≡ usb_hs_on f }
 {
-    let mut g = f;
-    g.ctlr.usbhs_pllon = true;
-    g
+    f.ctlr.usbhs_pllon = true;
+    f
 }
 
-fn main_source(f: Fields, source: u8, pll: Pll) -> Fields
+fn main_source(mut f: Fields, source: u8, pll: Option<u8>) -> Fields
     ensures { result ≡ main_source source pll f }
 {
-    let Pll::Mul(mul) = pll else {
-        return f;
-    };
-    let from_hse = source == 1;
-    let mut g = f;
-    g.cfgr0.pllsrc = from_hse;
-    g.cfgr0.pllmul = mul;
-    g
+    if let Some(mul) = pll {
+        f.cfgr0.pllsrc = source == 1;
+        f.cfgr0.pllmul = mul;
+    }
+    f
 }
 
-fn main_on(f: Fields) -> Fields
+fn main_on(mut f: Fields) -> Fields
     ensures { result ≡ main_on f }
 {
-    let mut g = f;
-    g.ctlr.pllon = true;
-    g
+    f.ctlr.pllon = true;
+    f
 }
 
 // SCKMOD for an HCLK.
 fn sckmod(hclk: u32) -> u8
     ensures { result ≡ mode_of hclk }
 {
-    if hclk <= 100_000_000 { 0 } else { 1 }
+    u8::from(100_000_000 < hclk)
 }
 
-fn flash_mode(f: Fields, mode: u8) -> Fields
+fn flash_mode(mut f: Fields, mode: u8) -> Fields
     ensures { result ≡ flash_mode mode f }
 {
-    let mut g = f;
-    g.flash.sckmod = mode;
-    g.flash.lock = true;
-    g.flash.flock = true;
-    g
+    f.flash.sckmod = mode;
+    f.flash.lock = true;
+    f.flash.flock = true;
+    f
 }
 
 // SYSPLL's source and divisor, and the RNG's source. I2SPLLSRC serves the I2S clocks too, and is kept where the RNG takes SYSCLK.
-fn syspll(f: Fields, c: Config) -> Fields
+fn syspll(mut f: Fields, c: Config) -> Fields
     ensures { result ≡ sys_pll c f }
 {
-    let mut g = f;
-    g.cfgr2.syspllsrc = c.syspll_src;
-    g.cfgr2.sysplldiv = c.syspll_pre;
-    let from_pll = c.rng_src != 0;
-    g.cfgr2.rngsrc = from_pll;
-    if c.rng_src == 0 {
-        return g;
+    f.cfgr2.syspllsrc = c.syspll_src;
+    f.cfgr2.sysplldiv = c.syspll_pre;
+    f.cfgr2.rngsrc = c.rng_src != 0;
+    if c.rng_src != 0 {
+        f.cfgr2.i2spllsrc = c.rng_src == 2;
     }
-    let from_eth = c.rng_src == 2;
-    g.cfgr2.i2spllsrc = from_eth;
-    g
+    f
 }
 
-fn prescalers(f: Fields, c: Config) -> Fields
+fn prescalers(mut f: Fields, c: Config) -> Fields
     ensures { result ≡ buses c f }
 {
-    let adc = c.adc_src;
-    let usbhs = from_usbhs(adc);
-    let mut g = f;
-    g.cfgr0.hpre = c.ahb_pre;
-    g.cfgr0.ppre1 = c.apb1_pre;
-    g.cfgr0.ppre2 = c.apb2_pre;
-    g.cfgr0.adcpre = c.adc_pre;
-    g.cfgr0.adcsrc = usbhs;
-    g.cfgr0.adc_duty = c.adc_duty;
-    g
+    f.cfgr0.hpre = c.ahb_pre;
+    f.cfgr0.ppre1 = c.apb1_pre;
+    f.cfgr0.ppre2 = c.apb2_pre;
+    f.cfgr0.adcpre = c.adc_pre;
+    f.cfgr0.adcsrc = from_usbhs(c.adc_src);
+    f.cfgr0.adc_duty = c.adc_duty;
+    f
 }
 
 // The ADC's USBHS divisor less one. An accepted configuration's is at least 1.
-fn adc_divisor(f: Fields, adc: AdcClockSource) -> Fields
+fn adc_divisor(mut f: Fields, adc: AdcClockSource) -> Fields
     ensures { result ≡ adc_divisor adc f }
 {
-    let AdcClockSource::UsbHsPll { divisor } = adc else {
-        return f;
-    };
-    let mut g = f;
-    if divisor == 0 {
-        g.cfgr3.adc_clkdiv = 0;
-        return g;
+    if let AdcClockSource::UsbHsPll { divisor } = adc {
+        f.cfgr3.adc_clkdiv = divisor.saturating_sub(1);
     }
-    let less_one = divisor - 1;
-    g.cfgr3.adc_clkdiv = less_one;
-    g
-}
-
-fn same_clocks(a: Clocks, b: Clocks) -> bool
-    ensures { result ≡ same_clocks a b }
-{
-    (a.sysclk == b.sysclk)
-        & (a.hclk == b.hclk)
-        & (a.pclk1 == b.pclk1)
-        & (a.pclk2 == b.pclk2)
-        & (a.pclk1_tim == b.pclk1_tim)
-        & (a.pclk2_tim == b.pclk2_tim)
+    f
 }
 
 // Whether the fields, decoded with the same HSE, give the clocks that the check promised.
+#[tactic(auto, unfolding(crate::specs::Steps::agrees_of))]
 fn agrees(config: Config, promised: Clocks, fields: Fields) -> bool
     ensures { result ≡ agrees_of config promised fields }
 {
-    let hse = config.hse;
-    match decoder::decode(fields, v4x7::hse_frequency(hse)) {
-        Buses::Refused(_) => false,
-        Buses::Run(clocks) => same_clocks(clocks, promised),
-    }
+    decoder::decode(fields, tree::hse_frequency(config.hse)) == Ok(promised)
 }
 
-// What comes of a step with these fields and this reading, the check having promised these clocks.
-pub fn perform(config: Config, promised: Clocks, step: u8, fields: Fields, seen: Seen) -> Work
+// What comes of a step with these fields and this reading, the check having promised these clocks. None where no step has this number.
+// A match, and no list of closures: it is document 01's list of the 28 steps, a line for each.
+#[tactic(auto, unfolding(crate::specs::Steps::work_of))]
+pub fn perform(
+    config: Config,
+    promised: Clocks,
+    step: u8,
+    fields: Fields,
+    seen: Seen,
+) -> Option<Work>
     ensures { result ≡ work_of config promised step fields seen }
 {
-    let hse = config.hse;
-    let hspll = config.hspll;
-    let pll = config.pll;
-    let adc = config.adc_src;
-    match step {
+    let work = match step {
         1 => Work::Wrote(hsi_on(fields)),
         2 => Work::Waits(seen.hsirdy),
         3 => Work::Wrote(switch_to(fields, 0)),
@@ -321,15 +240,15 @@ pub fn perform(config: Config, promised: Clocks, step: u8, fields: Fields, seen:
         5 => Work::Wrote(syspll_gate(fields, false)),
         6 => Work::Wrote(all_off(fields)),
         7 => Work::Waits(all_clear(seen)),
-        8 => Work::Wrote(hse_bypass(fields, hse)),
+        8 => Work::Wrote(hse_bypass(fields, config.hse)),
         9 => Work::Wrote(hse_on(fields)),
         10 => Work::Waits(seen.hserdy),
         11 => Work::Wrote(eth_on(fields)),
         12 => Work::Waits(seen.eth_pllrdy),
-        13 => Work::Wrote(usbhs_source(fields, hse, hspll)),
+        13 => Work::Wrote(usbhs_source(fields, config.hse, config.hspll)),
         14 => Work::Wrote(usbhs_on(fields)),
         15 => Work::Waits(seen.usbhs_pllrdy),
-        16 => Work::Wrote(main_source(fields, config.pll_src, pll)),
+        16 => Work::Wrote(main_source(fields, config.pll_src, config.pll)),
         17 => Work::Wrote(main_on(fields)),
         18 => Work::Waits(seen.pllrdy),
         // The host writes the keys.
@@ -338,11 +257,12 @@ pub fn perform(config: Config, promised: Clocks, step: u8, fields: Fields, seen:
         21 => Work::Reads(sckmod(promised.hclk)),
         22 => Work::Wrote(syspll(fields, config)),
         23 => Work::Wrote(prescalers(fields, config)),
-        24 => Work::Wrote(adc_divisor(fields, adc)),
+        24 => Work::Wrote(adc_divisor(fields, config.adc_src)),
         25 => Work::Wrote(syspll_gate(fields, true)),
         26 => Work::Wrote(switch_to(fields, config.sys)),
         27 => Work::Waits(seen.sws == config.sys),
         28 => Work::Compares(agrees(config, promised, fields)),
-        _ => Work::NotListed,
-    }
+        _ => return None,
+    };
+    Some(work)
 }

@@ -1,14 +1,12 @@
 -- Text put into lent bytes, piece by piece.
 -- Assumes nothing.
-use Rattle.std.specs.Prelude.{ℕ, ◌+◌, List, [], ◌∷◌, ◌++◌, ◌≡◌, refl, ltb, length, take, drop}
+use Rattle.std.specs.Prelude.{ℕ, ◌+◌, List, [], ◌∷◌, ◌++◌, ◌≡◌, refl, ltb, length, take, drop, Option, Some, None}
 use Rattle.std.proofs.Common.{sym, ◌∙◌}
 use Prim.Native.Char.{code}
 use Prim.Native.String as string
 use Rattle.answer.specs.Answer.{Answer, gives, refuses, refuse, ◌>>=◌, ◌>>◌, settled_by}
 use Rattle.layout.specs.Lent.{after}
 use Rattle.text.specs.Decimal.{decimal}
-use Rattle.text.specs.declared.Put.{Put}
-use Rattle.text.specs.declared.Put.TheVariants.{At, NoRoom}
 
 -- the bytes of a text of ASCII letters
 abbrev pub ascii : string.String → List ℕ
@@ -19,10 +17,10 @@ ascii (string.◌∷◌ c s) = code c ∷ ascii s
 unfoldable pub line_of : List ℕ → ℕ → List ℕ
 line_of name n = name ++ ascii " " ++ decimal n ++ ascii "\n"
 
--- a `Put`: the place where text goes on; 32 where there was no room
-abbrev pub place_of : Put → Answer ℕ
-place_of (At at) = gives at
-place_of NoRoom = refuses 32
+-- the place where text goes on; 32 where there was no room
+abbrev pub place_of : Option ℕ → Answer ℕ
+place_of (Some at) = gives at
+place_of None = refuses 32
 
 -- the bytes l with the text xs over them, from the place `at` on
 abbrev pub overlaid : List ℕ → ℕ → List ℕ → List ℕ
@@ -48,22 +46,22 @@ with_text place xs l = do
   gives (overlaid l at xs)
 
 -- The text xs put at a place of l: the answer r, and every lent byte.
-pub record Placed (place : Put) (xs l l' : List ℕ) (r : Put) : Type 0 where
+pub record Placed (place : Option ℕ) (xs l l' : List ℕ) (r : Option ℕ) : Type 0 where
   pub answer : place_of r ≡ end_of (place_of place) xs l
   pub bytes : l' ≡ after l (with_text (place_of place) xs l)
 
 -- Nothing is left open: the answer and the bytes are settled.
-put_of : Answer ℕ → Put
-put_of (gives at) = At at
-put_of (refuses n) = NoRoom
+put_of : Answer ℕ → Option ℕ
+put_of (gives at) = Some at
+put_of (refuses n) = None
 
-put_again : (r : Put) → put_of (place_of r) ≡ r
+put_again : (r : Option ℕ) → put_of (place_of r) ≡ r
 unfolding put_of
-put_again (At at) = refl
-put_again NoRoom = refl
+put_again (Some at) = refl
+put_again None = refl
 
-pub put_settled : (r s : Put) → place_of r ≡ place_of s → r ≡ s
+pub put_settled : (r s : Option ℕ) → place_of r ≡ place_of s → r ≡ s
 put_settled = settled_by place_of put_of put_again
 
-pub placed_settled : {p : Put} {xs l a b : List ℕ} {r s : Put} → Placed p xs l a r → Placed p xs l b s → (r ≡ s) × (a ≡ b)
+pub placed_settled : {p : Option ℕ} {xs l a b : List ℕ} {r s : Option ℕ} → Placed p xs l a r → Placed p xs l b s → (r ≡ s) × (a ≡ b)
 placed_settled {r = r} {s = s} v w = (put_settled r s (v.answer ∙ sym w.answer), v.bytes ∙ sym w.bytes)

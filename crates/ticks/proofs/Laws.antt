@@ -1,6 +1,6 @@
 -- Laws that hold the ticks to document 02's words.
 -- Assumes nothing.
-use Rattle.std.specs.Prelude.{◌≡◌, ℕ, zero, suc, ◌+◌, ◌%◌, ◌^◌, ◌<◌, ◌≤◌, Bool, true, false, cond, List, [], ◌∷◌, ◌==◌, ◌≢◌, nat_le, slice_index, refl}
+use Rattle.std.specs.Prelude.{◌≡◌, ℕ, zero, suc, ◌+◌, ◌%◌, ◌^◌, ◌<◌, ◌≤◌, Bool, true, false, cond, Some, List, [], ◌∷◌, ◌==◌, ◌≢◌, nat_le, slice_index, refl}
 use Rattle.std.proofs.Common.{sym, ap, ◌∙◌, arith, eqb-true, ne_eqb, leb-true, leb-false}
 use Rattle.answer.specs.Tools.{true_false, false_true, cases}
 use Rattle.tree.specs.declared.Clocks.{Clocks}
@@ -9,7 +9,6 @@ use Rattle.startup.specs.Steps.{Op, write, wait, flash, compare, ops}
 use Rattle.startup.specs.declared.Report.{Report}
 use Rattle.startup.specs.declared.Report.TheVariants.{Worked, Waiting, Running, Failed, Refused}
 use Rattle.startup.specs.declared.Reading.{Reading}
-use Rattle.startup.specs.declared.Phase.TheVariants.{Over}
 use Rattle.startup.specs.declared.Startup.{Startup}
 use Rattle.ticks.specs.declared.Waits.{Waits}
 use Rattle.ticks.specs.declared.Ticks as declared
@@ -123,6 +122,6 @@ unmet_waits t unmet tick (Failed number step used) h = refl
 unmet_waits t unmet tick (Refused number) h = refl
 
 -- A startup that is over keeps its ticks, whatever its last report is.
-pub over_keeps : (t : Ticked) (r : Reading) (tick : ℕ) {last : Report} → t.startup.phase ≡ Over last → (ticked_of t r tick).ticked.ticks ≡ t.ticks
+pub over_keeps : (t : Ticked) (r : Reading) (tick : ℕ) {last : Report} → t.startup.over ≡ Some last → (ticked_of t r tick).ticked.ticks ≡ t.ticks
 unfolding ticked_of
 over_keeps t r tick e = rw e

@@ -1,12 +1,10 @@
 -- The ticks of a startup's waits. Document 02, K5: "For each met wait we want the ticks from that wait's first reading to the met one, the difference taken
 -- modulo 2^32, and the longest of these."
 -- Assumes nothing.
-use Rattle.std.specs.Prelude.{ℕ, ◌+◌, ◌-◌, ◌%◌, ◌^◌, max, Bool, true, false, cond, ◌||◌, List, [], ◌∷◌, ◌==◌}
+use Rattle.std.specs.Prelude.{ℕ, ◌+◌, ◌-◌, ◌%◌, ◌^◌, max, Bool, true, false, cond, ◌||◌, Option, None, Some, List, [], ◌∷◌, ◌==◌}
 use Rattle.startup.specs.declared.Reading.{Reading}
 use Rattle.startup.specs.declared.Report.{Report}
 use Rattle.startup.specs.declared.Report.TheVariants.{Worked, Waiting, Running, Failed, Refused}
-use Rattle.startup.specs.declared.Phase.{Phase}
-use Rattle.startup.specs.declared.Phase.TheVariants.{Going, Over}
 use Rattle.startup.specs.declared.Startup.{Startup}
 use Rattle.startup.specs.Call.{step_of}
 use Rattle.ticks.specs.declared.Waits.{Waits}
@@ -74,13 +72,13 @@ abbrev pub begun_with : Startup → Ticked
 begun_with s = record { startup = s; ticks = record { first = 0; waits = waits_by (λ k. 0) } }
 
 -- Is a startup over?
-abbrev pub is_over : Phase → Bool
-is_over Going = false
-is_over (Over last) = true
+abbrev pub is_over : Option Report → Bool
+is_over None = false
+is_over (Some last) = true
 
 -- One call: the startup's own, and the ticks beside it. Of a startup that is over before the call the ticks stay, whatever it reports.
 unfoldable pub ticked_of : Ticked → Reading → ℕ → TickedStep
 ticked_of t r tick =
     let x = step_of t.startup r in
-    let ticks = cond (is_over t.startup.phase) t.ticks (after_of t.ticks t.startup.unmet tick x.report) in
+    let ticks = cond (is_over t.startup.over) t.ticks (after_of t.ticks t.startup.unmet tick x.report) in
     record { ticked = record { startup = x.startup; ticks = ticks }; report = x.report }

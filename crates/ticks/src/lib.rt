@@ -2,13 +2,13 @@
 // first reading to the met one are kept, modulo 2^32. Ticks change no other answer.
 #![tactic(auto)]
 
-ghost use Rattle.std.specs.Prelude.{◌≡◌, max, if◌then◌else◌};
-ghost use Rattle.ticks.specs.Ticks.{spent_of, longest_of, has_wait, noted_of, met_of, meets_wait, after_of, begun_with, is_over, ticked_of};
+ghost use Rattle.std.specs.Prelude.{◌≡◌};
+ghost use Rattle.ticks.specs.Ticks.{spent_of, longest_of, has_wait, noted_of, met_of, meets_wait, after_of, begun_with, ticked_of};
 
-use startup::{Phase, Reading, Report, Startup};
+use startup::{Reading, Report, Startup};
 
 // The ticks of each wait, by its step: 0 before it is met, and for good where it is skipped or fails.
-#[derive(Clone, Copy)]
+#[derive(Clone, Copy, Debug, PartialEq, Eq)]
 pub struct Waits {
     pub at2: u32,
     pub at4: u32,
@@ -20,20 +20,20 @@ pub struct Waits {
     pub at27: u32,
 }
 
-#[derive(Clone, Copy)]
+#[derive(Clone, Copy, Debug, PartialEq, Eq)]
 pub struct Ticks {
     // The tick of the first reading of the wait whose turn it is, once one was unmet.
     pub first: u32,
     pub waits: Waits,
 }
 
-#[derive(Clone, Copy)]
+#[derive(Clone, Copy, Debug, PartialEq, Eq)]
 pub struct Ticked {
     pub startup: Startup,
     pub ticks: Ticks,
 }
 
-#[derive(Clone, Copy)]
+#[derive(Clone, Copy, Debug, PartialEq, Eq)]
 pub struct TickedStep {
     pub ticked: Ticked,
     pub report: Report,
@@ -43,61 +43,41 @@ pub struct TickedStep {
 fn spent(first: u32, tick: u32) -> u32
     ensures { result ≡ spent_of first tick }
 {
-    std::num::wrapping_sub_u32(tick, first)
-}
-
-fn either(on: bool, a: u32, b: u32) -> u32
-    ensures { result ≡ (if on then a else b) }
-{
-    if on { a } else { b }
-}
-
-fn longer(a: u32, b: u32) -> u32
-    ensures { result ≡ max a b }
-{
-    if a < b { b } else { a }
+    tick.wrapping_sub(first)
 }
 
 // Does the step wait?
 fn has_wait(step: u8) -> bool
     ensures { result ≡ has_wait step }
 {
-    (step == 2)
-        | (step == 4)
-        | (step == 7)
-        | (step == 10)
-        | (step == 12)
-        | (step == 15)
-        | (step == 18)
-        | (step == 27)
+    matches!(step, 2 | 4 | 7 | 10 | 12 | 15 | 18 | 27)
 }
 
 // The step's wait took so many ticks. A step without a wait changes nothing.
+#[tactic(auto, unfolding(crate::specs::Ticks::noted_of))]
 fn noted(w: Waits, step: u8, ticks: u32) -> Waits
     ensures { result ≡ noted_of w step ticks }
 {
-    Waits {
-        at2: either(step == 2, ticks, w.at2),
-        at4: either(step == 4, ticks, w.at4),
-        at7: either(step == 7, ticks, w.at7),
-        at10: either(step == 10, ticks, w.at10),
-        at12: either(step == 12, ticks, w.at12),
-        at15: either(step == 15, ticks, w.at15),
-        at18: either(step == 18, ticks, w.at18),
-        at27: either(step == 27, ticks, w.at27),
+    match step {
+        2 => Waits { at2: ticks, ..w },
+        4 => Waits { at4: ticks, ..w },
+        7 => Waits { at7: ticks, ..w },
+        10 => Waits { at10: ticks, ..w },
+        12 => Waits { at12: ticks, ..w },
+        15 => Waits { at15: ticks, ..w },
+        18 => Waits { at18: ticks, ..w },
+        27 => Waits { at27: ticks, ..w },
+        _ => w,
     }
 }
 
 // A step is worked at this tick; its wait's first reading was at `first`.
+#[tactic(auto, unfolding(crate::specs::Ticks::met_of))]
 fn met(t: Ticks, step: u8, first: u32, tick: u32) -> Ticks
     ensures { result ≡ met_of t step first tick }
 {
-    let before = t.waits;
-    let waits = noted(before, step, spent(first, tick));
-    Ticks {
-        first: t.first,
-        waits,
-    }
+    let waits = noted(t.waits, step, spent(first, tick));
+    Ticks { waits, ..t }
 }
 
 // Has this report met a wait? Of the steps that it can name, eight have one.
@@ -105,61 +85,37 @@ pub fn meets_wait(report: Report) -> bool
     ensures { result ≡ meets_wait report }
 {
     match report {
-        Report::Worked { step, used: _ } => has_wait(step),
-        Report::Waiting { step: _, used: _ } => false,
-        Report::Running { step: _, used: _ } => false,
-        Report::Failed {
-            number: _,
-            step: _,
-            used: _,
-        } => false,
-        Report::Refused(_) => false,
-    }
-}
-
-// Is a startup over?
-pub fn is_over(phase: Phase) -> bool
-    ensures { result ≡ is_over phase }
-{
-    match phase {
-        Phase::Going => false,
-        Phase::Over(_) => true,
+        Report::Worked { step, .. } => has_wait(step),
+        Report::Waiting { .. }
+        | Report::Running { .. }
+        | Report::Failed { .. }
+        | Report::Refused(_) => false,
     }
 }
 
 impl Waits {
     // The longest of the eight: 0 before any is met.
+    #[tactic(auto, unfolding(crate::specs::Ticks::longest_of))]
     pub fn longest(self) -> u32
         ensures { result ≡ longest_of self }
     {
-        let late = longer(self.at12, longer(self.at15, longer(self.at18, self.at27)));
-        longer(
-            self.at2,
-            longer(self.at4, longer(self.at7, longer(self.at10, late))),
-        )
+        let early = self.at2.max(self.at4).max(self.at7).max(self.at10);
+        let late = self.at12.max(self.at15).max(self.at18).max(self.at27);
+        early.max(late)
     }
 }
 
 impl Ticks {
     // After a call at this tick, before which the wait had so many unmet readings: without any, this call's reading is its first.
+    #[tactic(auto, unfolding(crate::specs::Ticks::after_of))]
     pub fn after(self, unmet: u32, tick: u32, report: Report) -> Ticks
         ensures { result ≡ after_of self unmet tick report }
     {
-        let first = either(unmet == 0, tick, self.first);
+        let first = if unmet == 0 { tick } else { self.first };
         match report {
-            Report::Worked { step, used: _ } => met(self, step, first, tick),
-            Report::Waiting { step: _, used: _ } => {
-                let mut x = self;
-                x.first = first;
-                x
-            }
-            Report::Running { step: _, used: _ } => self,
-            Report::Failed {
-                number: _,
-                step: _,
-                used: _,
-            } => self,
-            Report::Refused(_) => self,
+            Report::Worked { step, .. } => met(self, step, first, tick),
+            Report::Waiting { .. } => Ticks { first, ..self },
+            Report::Running { .. } | Report::Failed { .. } | Report::Refused(_) => self,
         }
     }
 }
@@ -188,23 +144,22 @@ impl Ticked {
     }
 
     // One call: the startup's own, and the ticks beside it. Of a startup that is over before the call the ticks stay.
+    #[tactic(auto, unfolding(crate::specs::Ticks::ticked_of))]
     pub fn step(self, reading: Reading, tick: u32) -> TickedStep
         ensures { result ≡ ticked_of self reading tick }
     {
         let earlier = self.startup;
-        let t = self.ticks;
-        let out = Startup::step(earlier, reading);
-        let startup = out.startup;
-        let report = out.report;
-        let phase = earlier.phase;
-        let ticks = if is_over(phase) {
-            t
-        } else {
-            t.after(earlier.unmet, tick, report)
+        let out = earlier.step(reading);
+        let ticks = match earlier.over {
+            Some(_) => self.ticks,
+            None => self.ticks.after(earlier.unmet, tick, out.report),
         };
         TickedStep {
-            ticked: Ticked { startup, ticks },
-            report,
+            ticked: Ticked {
+                startup: out.startup,
+                ticks,
+            },
+            report: out.report,
         }
     }
 }

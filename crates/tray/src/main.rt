@@ -2,13 +2,13 @@
 // refusal, to standard output.
 #![tactic(auto)]
 
-use answer::Outcome;
-use text::Put;
+use answer::Refusal;
 
 // Writes the line of a refusal, whose number has at most three digits, and answers whether all of it went out. It has room.
-fn refuse(rt: &impl Print, n: u8) -> bool {
+fn refuse(rt: &impl Print, refusal: Refusal) -> bool {
     let mut line = [0u8; 12];
-    let Put::At(end) = text::put_line(&mut line, Put::At(0), b"refused", n as u32) else {
+    let number = u32::from(refusal.number());
+    let Some(end) = text::put_line(&mut line, Some(0), b"refused", number) else {
         return false;
     };
     rt.write_all(&line[..end]).is_ok()
@@ -18,11 +18,11 @@ fn refuse(rt: &impl Print, n: u8) -> bool {
 fn answer(rt: &impl Print, profiles: &[u8]) -> bool {
     let mut out = [0u8; 65536];
     match boards::tray(profiles, &mut out) {
-        Outcome::Done => {
+        Ok(()) => {
             let n = profiles.len() / profile::SIZE * boards::RECORD;
             rt.write_all(&out[..n]).is_ok()
         }
-        Outcome::Refused(n) => refuse(rt, n),
+        Err(refusal) => refuse(rt, refusal),
     }
 }
 

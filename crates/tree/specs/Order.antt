@@ -1,7 +1,7 @@
 -- For the lists of refusals: HSE, a PLL's output and the six clocks as plain numbers, 0 for what is not there; and the order of the tree's own
 -- refusals, 28 for each code.
 -- Assumes nothing.
-use Rattle.std.specs.Prelude.{refl, Bool, true, false, List, [], ◌∷◌, ℕ, leb}
+use Rattle.std.specs.Prelude.{refl, Bool, true, false, Option, None, Some, List, [], ◌∷◌, ℕ, leb}
 use Rattle.std.proofs.Common.{ap}
 use Rattle.answer.specs.Order.{Test, OrElse, else_known, else_bind}
 use Rattle.divider.specs.declared.Family.{Family}
@@ -10,27 +10,23 @@ use Rattle.divider.specs.Divide.{ahb_divisor, apb_divisor}
 use Rattle.divider.specs.Frequency.{over}
 use Rattle.divider.specs.Laws.{by_ahb_else, apb_quotient_else}
 use Rattle.tree.specs.declared.Clocks.{Clocks}
-use Rattle.tree.specs.declared.HseFrequency.{HseFrequency}
-use Rattle.tree.specs.declared.HseFrequency.TheVariants as hse
-use Rattle.tree.specs.declared.Output.{Output}
-use Rattle.tree.specs.declared.Output.TheVariants as output
 use Rattle.tree.specs.Tree.{timer_clock, bus_of, below_of, clocks_of}
 
-abbrev pub no_hse : HseFrequency → Bool
-no_hse hse.Absent = true
-no_hse (hse.Hz hz) = false
+abbrev pub no_hse : Option ℕ → Bool
+no_hse None = true
+no_hse (Some hz) = false
 
-abbrev pub hse_hz : HseFrequency → ℕ
-hse_hz hse.Absent = 0
-hse_hz (hse.Hz hz) = hz
+abbrev pub hse_hz : Option ℕ → ℕ
+hse_hz None = 0
+hse_hz (Some hz) = hz
 
-abbrev pub no_output : Output → Bool
-no_output output.Absent = true
-no_output (output.At x) = false
+abbrev pub no_output : Option Frequency → Bool
+no_output None = true
+no_output (Some x) = false
 
-abbrev pub output_hz : Output → ℕ
-output_hz output.Absent = 0
-output_hz (output.At x) = x.hz
+abbrev pub output_hz : Option Frequency → ℕ
+output_hz None = 0
+output_hz (Some x) = x.hz
 
 -- a bus: PCLK, and its timers' clock
 abbrev pub bus_at : Family → Frequency → ℕ → Frequency × ℕ

@@ -1,49 +1,57 @@
 -- The theorems on what specs/Order.antt defines. Assumes nothing.
-use Rattle.std.specs.Prelude.{◌≡◌, refl, Bool, true, false, not, ◌&&◌, ◌||◌, [], ◌∷◌, ℕ, leb}
+use Rattle.std.specs.Prelude.{◌≡◌, refl, Bool, true, false, not, ◌&&◌, ◌||◌, List, [], ◌∷◌, Option, None, Some, ℕ, leb}
 use Rattle.std.proofs.Common.{subst}
 use Rattle.answer.specs.Answer.{gives, bound, same_given}
-use Rattle.answer.specs.Order.{first_of, bare, InOrder, order_past, order_bind}
+use Rattle.answer.specs.Order.{Test, first_of, bare, InOrder, order_past, order_bind}
 use Rattle.answer.specs.Tools.{neither}
 use Rattle.answer.specs.Lists.{order_either, order_under, order_skip, order_map}
-use Rattle.tree.specs.declared.HseFrequency.{HseFrequency}
-use Rattle.tree.specs.declared.Output.{Output}
-use Rattle.tree.specs.declared.Output.TheVariants as output
 use Rattle.tree.specs.Order.{no_hse, no_output}
 use Rattle.pll32.specs.declared.Part.{Part}
 use Rattle.pll32.specs.declared.Source.{Source}
 use Rattle.pll32.specs.declared.Source.TheVariants as from
-use Rattle.pll32.specs.Pll.{hse_frequency_of, too_wide, pll_output_of}
+use Rattle.divider.specs.declared.Frequency.{Frequency}
+use Rattle.tree.specs.Tree.{hse_frequency_of}
+use Rattle.pll32.specs.Pll.{too_wide, pll_output_of}
 use Rattle.pll32.specs.Order.{from_hse, over32}
 use Rattle.pll32.proofs.Order.{pll_order, codes_order, configured_where, decoded_clocks_in_order}
 use Rattle.v1.specs.declared.Chip.{Chip}
+use Rattle.v1.specs.declared.PllPreDiv.{PllPreDiv}
 use Rattle.v1.specs.declared.PllPreDiv.TheVariants.{Div1, Div2}
 use Rattle.v1.specs.declared.Pll.{Pll}
-use Rattle.v1.specs.declared.Pll.TheVariants as pll
 use Rattle.v1.specs.declared.Config.{Config}
 use Rattle.v1.specs.declared.Fields.{Fields}
 use Rattle.v1.specs.V1.{part_of, setting_of, wide_pll, wide_config, configured_pll_of, check_of, setting_in, decode_of, wide_fields, written_of, fields_of}
 use Rattle.v1.specs.Order.{check_tests, decode_tests, fields_tests, has_pll, mul_code, pll_hz}
 
 -- the PLL's part, once its code is in its field
-pll_part : (part : Part) (h : HseFrequency) (source : Source) (p : Pll) → wide_pll p ≡ false →
-    InOrder ((3, has_pll p && (from_hse source && no_hse h)) ∷ (24, has_pll p && over32 (pll_hz part h source p)) ∷ []) (configured_pll_of part h source p)
+abbrev pll_tests : Part → Option ℕ → Source → Option Pll → List Test
+pll_tests part h source p = (3, has_pll p && (from_hse source && no_hse h)) ∷ (24, has_pll p && over32 (pll_hz part h source p)) ∷ []
+
+by_prediv : (part : Part) (h : Option ℕ) (source : Source) (prediv : PllPreDiv) (mul : ℕ) → leb 16 mul ≡ false →
+    let p : Option Pll = Some (record { prediv = prediv; mul = mul }) in
+    InOrder (pll_tests part h source p) (configured_pll_of part h source p)
 unfolding configured_pll_of
-pll_part part h source pll.Absent narrow = record { goes = refl }
-pll_part part h source (pll.Present Div1 mul) narrow =
-    order_map output.At (pll_output_of part h (setting_of source Div1 mul)) (order_skip narrow (pll_order part h (setting_of source Div1 mul)))
-pll_part part h source (pll.Present Div2 mul) narrow =
-    order_map output.At (pll_output_of part h (setting_of source Div2 mul)) (order_skip narrow (pll_order part h (setting_of source Div2 mul)))
+by_prediv part h source Div1 mul narrow =
+    order_map Some (pll_output_of part h (setting_of source Div1 mul)) (order_skip narrow (pll_order part h (setting_of source Div1 mul)))
+by_prediv part h source Div2 mul narrow =
+    order_map Some (pll_output_of part h (setting_of source Div2 mul)) (order_skip narrow (pll_order part h (setting_of source Div2 mul)))
+
+pll_part : (part : Part) (h : Option ℕ) (source : Source) (p : Option Pll) → wide_pll p ≡ false →
+    InOrder (pll_tests part h source p) (configured_pll_of part h source p)
+unfolding configured_pll_of
+pll_part part h source None narrow = record { goes = refl }
+pll_part part h source (Some p) narrow = by_prediv part h source p.prediv p.mul narrow
 
 -- there is an output where a PLL is configured
-pll_there_lem : (part : Part) (h : HseFrequency) (source : Source) (p : Pll) {out : Output} → configured_pll_of part h source p ≡ gives out → no_output out ≡ not (has_pll p)
+pll_there_lem : (part : Part) (h : Option ℕ) (source : Source) (p : Option Pll) {out : Option Frequency} → configured_pll_of part h source p ≡ gives out → no_output out ≡ not (has_pll p)
 unfolding configured_pll_of
-pll_there_lem part h source pll.Absent e = subst (λ (o : Output). no_output o ≡ true) (same_given e) refl
-pll_there_lem part h source (pll.Present prediv mul) e =
-    subst (λ (o : Output). no_output o ≡ false) (same_given (bound (pll_output_of part h (setting_of source prediv mul)) _ e).after) refl
+pll_there_lem part h source None e = subst (λ (o : Option Frequency). no_output o ≡ true) (same_given e) refl
+pll_there_lem part h source (Some p) e =
+    subst (λ (o : Option Frequency). no_output o ≡ false) (same_given (bound (pll_output_of part h (setting_of source p.prediv p.mul)) _ e).after) refl
 
-wide_pll_lem : (p : Pll) → wide_pll p ≡ leb 16 (mul_code p)
-wide_pll_lem pll.Absent = refl
-wide_pll_lem (pll.Present prediv mul) = refl
+wide_pll_lem : (p : Option Pll) → wide_pll p ≡ leb 16 (mul_code p)
+wide_pll_lem None = refl
+wide_pll_lem (Some p) = refl
 
 check_order : (chip : Chip) (c : Config) → InOrder (check_tests chip c) (check_of chip c)
 unfolding check_of wide_config
@@ -68,7 +76,7 @@ fields_in_order chip c f =
     let all = order_past 28 (leb 16 f.pllmul || codes) (λ e. order_map (λ k. written_of c f) (check_of chip c) (check_order chip c)) in
     (order_under (leb 16 f.pllmul) (codes_order f.sws f.hpre f.ppre1 f.ppre2) (order_either (leb 16 f.pllmul) codes all)).goes
 
-by_bits : (chip : Chip) (sws mul hpre ppre1 ppre2 : ℕ) (h : HseFrequency) (pllsrc pllxtpre hsipre : Bool) →
+by_bits : (chip : Chip) (sws mul hpre ppre1 ppre2 : ℕ) (h : Option ℕ) (pllsrc pllxtpre hsipre : Bool) →
     let f : Fields =
     record { sws = sws; pllsrc = pllsrc; pllxtpre = pllxtpre; pllmul = mul; hpre = hpre; ppre1 = ppre1; ppre2 = ppre2; hsipre = hsipre } in
     bare (decode_of chip f h) ≡ first_of (decode_tests chip f h)
@@ -78,5 +86,5 @@ by_bits chip sws mul hpre ppre1 ppre2 h true false hsipre = decoded_clocks_in_or
 by_bits chip sws mul hpre ppre1 ppre2 h false pllxtpre true = decoded_clocks_in_order (part_of chip) h (record { source = from.Hsi; prediv = 0; mul = mul }) sws hpre ppre1 ppre2
 by_bits chip sws mul hpre ppre1 ppre2 h false pllxtpre false = decoded_clocks_in_order (part_of chip) h (record { source = from.Hsi; prediv = 1; mul = mul }) sws hpre ppre1 ppre2
 
-pub decode_in_order : (chip : Chip) (f : Fields) (h : HseFrequency) → bare (decode_of chip f h) ≡ first_of (decode_tests chip f h)
+pub decode_in_order : (chip : Chip) (f : Fields) (h : Option ℕ) → bare (decode_of chip f h) ≡ first_of (decode_tests chip f h)
 decode_in_order chip f h = by_bits chip f.sws f.pllmul f.hpre f.ppre1 f.ppre2 h f.pllsrc f.pllxtpre f.hsipre

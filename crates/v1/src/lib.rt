@@ -1,49 +1,50 @@
 // CH32V1 and CH32L1: the clock configuration and its check, the fields that starting it leaves, and their decoder.
-#![tactic(auto)]
+// What it has in common with v30x is in pll32. What looks alike in both goes by its own fields and PLL, so a trait over them would name each part twice and join few lines.
+#![tactic(auto, unfolding(pll32::specs::Pll::setting_in, crate::specs::V1::wide_config, crate::specs::V1::configured_pll_of, crate::specs::V1::check_of, crate::specs::V1::setting_in, crate::specs::V1::decode_of, crate::specs::V1::pll_fields, crate::specs::V1::written_of, crate::specs::V1::wide_fields, crate::specs::V1::fields_of))]
 
 ghost use Rattle.std.specs.Prelude.{◌≡◌};
-ghost use Rattle.tree.specs.Tree.{buses_says, made_says};
-ghost use Rattle.pll32.specs.Pll.{checked_says};
-ghost use Rattle.v1.specs.V1.{part_of, prediv_code, wide_pll, wide_config, configured_pll_of, check_of, wide_fields, prediv_code_in, setting_in, decode_of, pll_fields, written_of, fields_of, written_says};
+ghost use Rattle.answer.specs.Said.{says};
+ghost use Rattle.v1.specs.V1.{part_of, config_codes, fields_codes, prediv_code, wide_pll, wide_config, configured_pll_of, check_of, wide_fields, setting_in, decode_of, pll_fields, written_of, fields_of};
 
-use divider::Rate;
-use pll32::{Checked, Hse, Part, Setting, Source};
-use tree::{Buses, HseFrequency, Made, Output};
+use answer::Refusal;
+use divider::Frequency;
+use pll32::{ClockRecord, Codes, Part, Setting, Source};
+use tree::{Clocks, Hse, Prescalers};
 
 // The two chips, which differ in a multiplier and a USB divisor.
-#[derive(Clone, Copy)]
+#[derive(Clone, Copy, Debug, PartialEq, Eq)]
 pub enum Chip {
     V1,
     L1,
 }
 
-#[derive(Clone, Copy)]
+#[derive(Clone, Copy, Debug, PartialEq, Eq)]
 pub enum PllPreDiv {
     Div1,
     Div2,
 }
 
 // The PLL, with its predivider and the code of its multiplier (`PllMul`).
-#[derive(Clone, Copy)]
-pub enum Pll {
-    Absent,
-    Present { prediv: PllPreDiv, mul: u8 },
+#[derive(Clone, Copy, Debug, PartialEq, Eq)]
+pub struct Pll {
+    pub prediv: PllPreDiv,
+    pub mul: u8,
 }
 
 // A configuration. `sys` and the prescalers are the codes of their fields.
-#[derive(Clone, Copy)]
+#[derive(Clone, Copy, Debug, PartialEq, Eq)]
 pub struct Config {
-    pub hse: Hse,
+    pub hse: Option<Hse>,
     pub sys: u8,
     pub pll_src: Source,
-    pub pll: Pll,
+    pub pll: Option<Pll>,
     pub ahb_pre: u8,
     pub apb1_pre: u8,
     pub apb2_pre: u8,
 }
 
 // The register fields that the clocks depend on. PLLSRC set is HSE, PLLXTPRE set HSE by 2, the HSI predivider bit set HSI by 1.
-#[derive(Clone, Copy)]
+#[derive(Clone, Copy, Debug, PartialEq, Eq)]
 pub struct Fields {
     pub sws: u8,
     pub pllsrc: bool,
@@ -55,19 +56,44 @@ pub struct Fields {
     pub hsipre: bool,
 }
 
-// The fields that starting a configuration leaves, or a refusal number.
-#[derive(Clone, Copy)]
-pub enum Written {
-    Is(Fields),
-    Refused(u8),
+impl From<Chip> for Part {
+    ghost from_gives = { λ chip r. r ≡ part_of chip };
+
+    fn from(chip: Chip) -> Part {
+        match chip {
+            Chip::V1 => Part::V1,
+            Chip::L1 => Part::L1,
+        }
+    }
 }
 
-fn part_of(chip: Chip) -> Part
-    ensures { result ≡ part_of chip }
-{
-    match chip {
-        Chip::V1 => Part::V1,
-        Chip::L1 => Part::L1,
+impl Config {
+    fn codes(self) -> Codes
+        ensures { result ≡ config_codes self }
+    {
+        Codes {
+            sys: self.sys,
+            prescalers: Prescalers {
+                ahb: self.ahb_pre,
+                apb1: self.apb1_pre,
+                apb2: self.apb2_pre,
+            },
+        }
+    }
+}
+
+impl Fields {
+    fn codes(self) -> Codes
+        ensures { result ≡ fields_codes self }
+    {
+        Codes {
+            sys: self.sws,
+            prescalers: Prescalers {
+                ahb: self.hpre,
+                apb1: self.ppre1,
+                apb2: self.ppre2,
+            },
+        }
     }
 }
 
@@ -75,172 +101,118 @@ fn part_of(chip: Chip) -> Part
 fn prediv_code(prediv: PllPreDiv) -> u8
     ensures { result ≡ prediv_code prediv }
 {
-    match prediv {
-        PllPreDiv::Div1 => 0,
-        PllPreDiv::Div2 => 1,
-    }
+    prediv as u8
 }
 
-fn wide_pll(pll: Pll) -> bool
+fn wide_pll(pll: Option<Pll>) -> bool
     ensures { result ≡ wide_pll pll }
 {
-    match pll {
-        Pll::Absent => false,
-        Pll::Present { prediv: _, mul } => 16 <= mul,
-    }
+    matches!(pll, Some(p) if 16 <= p.mul)
 }
 
 // Whether a code of a configuration, used or not, is too wide for its field.
 fn wide_config(c: Config) -> bool
     ensures { result ≡ wide_config c }
 {
-    let pll = c.pll;
-    wide_pll(pll) | pll32::too_wide(c.sys, c.ahb_pre, c.apb1_pre, c.apb2_pre)
+    wide_pll(c.pll) | pll32::too_wide(c.codes())
 }
 
 // The PLL's output, of a configured PLL.
-fn configured_pll(part: Part, hse: HseFrequency, source: Source, pll: Pll) -> Made
-    ensures { made_says result ≡ configured_pll_of part hse source pll }
+fn configured_pll(
+    part: Part,
+    hse: Option<u32>,
+    source: Source,
+    pll: Option<Pll>,
+) -> Result<Option<Frequency>, Refusal>
+    ensures { says result ≡ configured_pll_of part hse source pll }
 {
-    match pll {
-        Pll::Absent => Made::Is(Output::Absent),
-        Pll::Present { prediv, mul } => {
-            let setting = Setting {
-                source,
-                prediv: prediv_code(prediv),
-                mul,
-            };
-            match pll32::pll_output(part, hse, setting) {
-                Rate::Refused(n) => Made::Refused(n),
-                Rate::At(x) => Made::Is(Output::At(x)),
-            }
-        }
-    }
+    let Some(Pll { prediv, mul }) = pll else {
+        return Ok(None);
+    };
+    let setting = Setting {
+        source,
+        prediv: prediv_code(prediv),
+        mul,
+    };
+    Ok(Some(pll32::pll_output(part, hse, setting)?))
 }
 
 // The check of a configuration: its clocks and the USB divisor, or the first refusal in document 01's order.
-pub fn check(chip: Chip, config: Config) -> Checked
-    ensures { checked_says result ≡ check_of chip config }
+pub fn check(chip: Chip, config: Config) -> Result<ClockRecord, Refusal>
+    ensures { says result ≡ check_of chip config }
 {
     if wide_config(config) {
-        return Checked::Refused(answer::CODE_NOT_ALLOWED);
+        return Err(Refusal::CodeNotAllowed);
     }
-    let part = part_of(chip);
-    let oscillator = config.hse;
-    let hse = pll32::hse_frequency(oscillator);
-    let source = config.pll_src;
-    let pll = config.pll;
-    match configured_pll(part, hse, source, pll) {
-        Made::Refused(n) => Checked::Refused(n),
-        Made::Is(output) => pll32::configured_clocks(
-            part,
-            hse,
-            output,
-            config.sys,
-            config.ahb_pre,
-            config.apb1_pre,
-            config.apb2_pre,
-        ),
-    }
+    let part = Part::from(chip);
+    let hse = tree::hse_frequency(config.hse);
+    let output = configured_pll(part, hse, config.pll_src, config.pll)?;
+    pll32::configured_clocks(part, hse, output, config.codes())
 }
 
-// The code of the predivider that the bits name.
-fn prediv_code_in(pllsrc: bool, pllxtpre: bool, hsipre: bool) -> u8
-    ensures { result ≡ prediv_code_in pllsrc pllxtpre hsipre }
-{
-    if pllsrc {
-        if pllxtpre { 1 } else { 0 }
-    } else {
-        if hsipre { 0 } else { 1 }
-    }
-}
-
+// HSE's predivider has a bit of its own, which is its code.
 fn setting_in(f: Fields) -> Setting
     ensures { result ≡ setting_in f }
 {
-    let source = pll32::source_of(f.pllsrc);
-    let prediv = prediv_code_in(f.pllsrc, f.pllxtpre, f.hsipre);
-    Setting {
-        source,
-        prediv,
-        mul: f.pllmul,
-    }
+    pll32::setting_in(f.pllsrc, u8::from(f.pllxtpre), f.hsipre, f.pllmul)
 }
 
 // The decoder: the clocks that the fields make, with the frequency of HSE.
-pub fn decode(chip: Chip, fields: Fields, hse: HseFrequency) -> Buses
-    ensures { buses_says result ≡ decode_of chip fields hse }
+pub fn decode(chip: Chip, fields: Fields, hse: Option<u32>) -> Result<Clocks, Refusal>
+    ensures { says result ≡ decode_of chip fields hse }
 {
-    let part = part_of(chip);
-    let setting = setting_in(fields);
-    pll32::decoded_clocks(
-        part,
-        hse,
-        setting,
-        fields.sws,
-        fields.hpre,
-        fields.ppre1,
-        fields.ppre2,
-    )
+    pll32::decoded_clocks(Part::from(chip), hse, setting_in(fields), fields.codes())
 }
 
 // What starting the PLL writes: nothing where none is configured, and of the predividers the source's alone.
-fn pll_fields(source: Source, pll: Pll, earlier: Fields) -> Fields
+fn pll_fields(source: Source, pll: Option<Pll>, earlier: Fields) -> Fields
     ensures { result ≡ pll_fields source pll earlier }
 {
-    let mut f = earlier;
-    match pll {
-        Pll::Absent => f,
-        Pll::Present { prediv, mul } => {
-            let code = prediv_code(prediv);
-            f.pllmul = mul;
-            match source {
-                Source::Hsi => {
-                    let whole = code == 0;
-                    f.pllsrc = false;
-                    f.hsipre = whole;
-                    f
-                }
-                Source::Hse => {
-                    let halved = code == 1;
-                    f.pllsrc = true;
-                    f.pllxtpre = halved;
-                    f
-                }
-            }
-        }
+    let Some(Pll { prediv, mul }) = pll else {
+        return earlier;
+    };
+    let code = prediv_code(prediv);
+    match source {
+        Source::Hsi => Fields {
+            pllsrc: false,
+            pllmul: mul,
+            hsipre: code == 0,
+            ..earlier
+        },
+        Source::Hse => Fields {
+            pllsrc: true,
+            pllmul: mul,
+            pllxtpre: code == 1,
+            ..earlier
+        },
     }
 }
 
 fn written_of(c: Config, earlier: Fields) -> Fields
     ensures { result ≡ written_of c earlier }
 {
-    let source = c.pll_src;
-    let pll = c.pll;
-    let mut f = pll_fields(source, pll, earlier);
-    f.sws = c.sys;
-    f.hpre = c.ahb_pre;
-    f.ppre1 = c.apb1_pre;
-    f.ppre2 = c.apb2_pre;
-    f
+    Fields {
+        sws: c.sys,
+        hpre: c.ahb_pre,
+        ppre1: c.apb1_pre,
+        ppre2: c.apb2_pre,
+        ..pll_fields(c.pll_src, c.pll, earlier)
+    }
 }
 
 fn wide_fields(f: Fields) -> bool
     ensures { result ≡ wide_fields f }
 {
-    (16 <= f.pllmul) | pll32::too_wide(f.sws, f.hpre, f.ppre1, f.ppre2)
+    (16 <= f.pllmul) | pll32::too_wide(f.codes())
 }
 
 // The fields that the Rust's `init` leaves for an accepted configuration, over earlier fields.
-pub fn init_fields(chip: Chip, config: Config, earlier: Fields) -> Written
-    ensures { written_says result ≡ fields_of chip config earlier }
+pub fn init_fields(chip: Chip, config: Config, earlier: Fields) -> Result<Fields, Refusal>
+    ensures { says result ≡ fields_of chip config earlier }
 {
     if wide_fields(earlier) {
-        return Written::Refused(answer::CODE_NOT_ALLOWED);
+        return Err(Refusal::CodeNotAllowed);
     }
-    let checked = check(chip, config);
-    let Checked::Accepted(_) = checked else {
-        return Written::Refused(pll32::refused(checked));
-    };
-    Written::Is(written_of(config, earlier))
+    check(chip, config)?;
+    Ok(written_of(config, earlier))
 }

@@ -1,47 +1,28 @@
--- Laws of CH32V30x: nothing is left open, and decoding the written fields gives the check's clocks.
+-- Laws of CH32V30x: decoding the written fields gives the check's clocks.
 -- Assumes nothing.
-use Rattle.std.specs.Prelude.{◌≡◌, refl, Bool, true, false, cond, ◌&&◌, ◌||◌, ℕ, zero, suc, eqb, leb}
+use Rattle.std.specs.Prelude.{◌≡◌, refl, Bool, true, false, cond, ◌&&◌, ◌||◌, Option, None, Some, ℕ, zero, suc, eqb, leb}
 use Rattle.std.proofs.Common.{subst, arith, eqb-true, leb-false}
-use Rattle.answer.specs.Answer.{Answer, gives, refuses, settled_by, bound, followed, passed, refuses_gives}
+use Rattle.answer.specs.Answer.{gives, bound, followed, passed, refuses_gives}
 use Rattle.answer.specs.Tools.{neither}
 use Rattle.divider.specs.declared.Frequency.{Frequency}
 use Rattle.pll32.specs.declared.Part.TheVariants as part
-use Rattle.tree.specs.declared.HseFrequency.{HseFrequency}
 use Rattle.pll32.specs.declared.Source.{Source}
 use Rattle.pll32.specs.declared.Source.TheVariants as from
 use Rattle.pll32.specs.declared.ClockRecord.{ClockRecord}
-use Rattle.tree.specs.declared.Output.{Output}
-use Rattle.tree.specs.declared.Output.TheVariants as output
-use Rattle.pll32.specs.Pll.{hse_frequency_of, too_wide, wide_setting, pll_output_of, pll_as_sysclk_of, configured_clocks_of}
+use Rattle.tree.specs.Tree.{hse_frequency_of}
+use Rattle.pll32.specs.Pll.{prediv_code_in, too_wide, wide_setting, pll_output_of, pll_as_sysclk_of, configured_clocks_of}
 use Rattle.pll32.specs.Laws.{Reads, reads_absent, reads_hz, read_back, pll_chosen}
 use Rattle.v30x.specs.declared.PllSource.{PllSource}
 use Rattle.v30x.specs.declared.PllSource.TheVariants as source
 use Rattle.v30x.specs.declared.Pll.{Pll}
-use Rattle.v30x.specs.declared.Pll.TheVariants as pll
 use Rattle.v30x.specs.declared.Config.{Config}
 use Rattle.v30x.specs.declared.Fields.{Fields}
-use Rattle.v30x.specs.declared.Written.{Written}
-use Rattle.v30x.specs.declared.Written.TheVariants as answer
-use Rattle.v30x.specs.V30x.{written_says, wide_pll, wide_hs_pll, wide_config, from_hsi, pllx_present, setting_of, pll_from_oscillator_of, configured_pll_of, usbhs_of, sources_of, check_of, prediv_code_in, setting_in, decode_of, pll_fields, written_of, wide_fields, fields_of}
-
--- Nothing is left open: two results that a promise allows are equal.
-
-written_back : Answer Fields → Written
-written_back (gives f) = answer.Is f
-written_back (refuses n) = answer.Refused n
-
-again : (r : Written) → written_back (written_says r) ≡ r
-unfolding written_back
-again (answer.Is f) = refl
-again (answer.Refused n) = refl
-
-pub written_settled : (r s : Written) → written_says r ≡ written_says s → r ≡ s
-written_settled = settled_by written_says written_back again
+use Rattle.v30x.specs.V30x.{wide_pll, wide_hs_pll, wide_config, from_hsi, setting_of, pll_from_oscillator_of, configured_pll_of, usbhs_of, sources_of, check_of, setting_in, decode_of, pll_fields, written_of, wide_fields, fields_of}
 
 -- Decoding the fields that starting a configuration leaves.
 
 -- what starting the PLL leaves in g serves a decoder that is to give what the check has as its output
-record Serves (hse : HseFrequency) (out : Output) (g : Fields) : Type 0 where
+record Serves (hse : Option ℕ) (out : Option Frequency) (g : Fields) : Type 0 where
   reads : Reads part.V30x hse out (setting_in g)
   narrow : wide_setting g.prediv1 g.pllmul ≡ false
   not_pll2 : (x : Frequency) → pll_as_sysclk_of out ≡ gives x → (g.pllsrc && g.prediv1src) ≡ false
@@ -59,55 +40,55 @@ narrow_code false prediv1 true h = refl
 narrow_code false prediv1 false h = refl
 
 -- a PLL that is fed: its predivider, and what a decoder of the same setting reads
-record Fed (hse : HseFrequency) (s : Source) (prediv mul : ℕ) (out : Output) : Type 0 where
+record Fed (hse : Option ℕ) (s : Source) (prediv mul : ℕ) (out : Option Frequency) : Type 0 where
   allowed : (from_hsi s && leb 2 prediv) ≡ false
   reads : Reads part.V30x hse out (setting_of s prediv mul)
 
-fed : (hse : HseFrequency) (s : Source) (prediv mul : ℕ) {out : Output} → pll_from_oscillator_of hse s prediv mul ≡ gives out →
+fed : (hse : Option ℕ) (s : Source) (prediv mul : ℕ) {out : Option Frequency} → pll_from_oscillator_of hse s prediv mul ≡ gives out →
     Fed hse s prediv mul out
 unfolding pll_from_oscillator_of
 fed hse s prediv mul {out} e =
     let made = bound (pll_output_of part.V30x hse (setting_of s prediv mul)) _ e in
     let by = passed 25 (from_hsi s && leb 2 prediv) _ made.after in
-    let some : output.At made.value ≡ out = cc by.after in
+    let some : ◌≡◌ {A = Option Frequency} (Some made.value) out = cc by.after in
     record {
       allowed = by.failed;
       reads =
-          subst (λ (o : Output). Reads part.V30x hse o (setting_of s prediv mul)) some
+          subst (λ (o : Option Frequency). Reads part.V30x hse o (setting_of s prediv mul)) some
           (reads_hz part.V30x hse (setting_of s prediv mul) made.gave);
     }
 
-serves : (hse : HseFrequency) (from : PllSource) (p : Pll) (f : Fields) {out : Output} → leb 16 f.prediv1 ≡ false →
+serves : (hse : Option ℕ) (from : PllSource) (p : Option Pll) (f : Fields) {out : Option Frequency} → leb 16 f.prediv1 ≡ false →
     leb 16 f.pllmul ≡ false → wide_pll p ≡ false → configured_pll_of hse from p ≡ gives out →
     Serves hse out (pll_fields from p f)
 unfolding configured_pll_of setting_in pll_fields
-serves hse from pll.Absent f {out} narrow fits codes e =
-    let none : output.Absent ≡ out = cc in
-    subst (λ (o : Output). Serves hse o f) none
+serves hse from None f {out} narrow fits codes e =
+    let none : ◌≡◌ {A = Option Frequency} None out = cc in
+    subst (λ (o : Option Frequency). Serves hse o f) none
     (record {
       reads = reads_absent part.V30x hse (setting_in f) (rw (narrow_code f.pllsrc f.prediv1 f.hsipre narrow) fits);
       narrow = rw narrow fits;
       not_pll2 = λ x q. refuses_gives q;
     })
-serves hse source.Hsi (pll.Present prediv mul) f {out} narrow fits codes e =
-    let by = fed hse from.Hsi prediv mul e in
+serves hse source.Hsi (Some p) f {out} narrow fits codes e =
+    let by = fed hse from.Hsi p.prediv p.mul e in
     record {
-      reads = rw (hsi_bit prediv by.allowed) by.reads;
-      narrow = rw narrow (neither (leb 16 prediv) (leb 16 mul) codes).1;
+      reads = rw (hsi_bit p.prediv by.allowed) by.reads;
+      narrow = rw narrow (neither (leb 16 p.prediv) (leb 16 p.mul) codes).1;
       not_pll2 = λ x q. refl;
     }
-serves hse source.Hse (pll.Present prediv mul) f {out} narrow fits codes e =
+serves hse source.Hse (Some p) f {out} narrow fits codes e =
     record {
-      reads = (fed hse from.Hse prediv mul e).reads;
+      reads = (fed hse from.Hse p.prediv p.mul e).reads;
       narrow = codes;
       not_pll2 = λ x q. refl;
     }
-serves hse source.Pll2 (pll.Present prediv mul) f narrow fits codes e =
+serves hse source.Pll2 (Some p) f narrow fits codes e =
     refuses_gives e
 
 -- what a configuration that the check accepts has passed
 record Takes (c : Config) (x : ClockRecord) : Type 0 where
-  out : Output
+  out : Option Frequency
   main : configured_pll_of (hse_frequency_of c.hse) c.pll_src c.pll ≡ gives out
   narrow : wide_pll c.pll ≡ false
   codes : too_wide c.sys c.ahb_pre c.apb1_pre c.apb2_pre ≡ false
@@ -120,7 +101,7 @@ takes c e =
     let plls = wide_pll c.pll || wide_hs_pll c.hspll in
     let codes = neither plls (too_wide c.sys c.ahb_pre c.apb1_pre c.apb2_pre) wide.failed in
     let sources = bound (sources_of (hse_frequency_of c.hse) c) _ wide.after in
-    let pllx = passed 27 (pllx_present c.pllx) _ sources.gave in
+    let pllx = passed 27 c.pllx _ sources.gave in
     let main = bound (configured_pll_of (hse_frequency_of c.hse) c.pll_src c.pll) _ pllx.after in
     let same : main.value ≡ sources.value = cc (followed (usbhs_of (hse_frequency_of c.hse) c.hspll_src c.hspll) _ main.after).after in
     record {

@@ -1,34 +1,30 @@
 -- The theorems on what specs/Order.antt defines. Assumes nothing.
-use Rattle.std.specs.Prelude.{◌≡◌, refl, Bool, true, false, not, ◌&&◌, ◌||◌, List, [], ◌∷◌, ℕ, ◌+◌, ◌/◌, eqb, leb}
+use Rattle.std.specs.Prelude.{◌≡◌, refl, Bool, true, false, not, ◌&&◌, ◌||◌, List, [], ◌∷◌, Option, None, Some, ℕ, ◌+◌, ◌/◌, eqb, leb}
 use Rattle.std.proofs.Common.{subst}
 use Rattle.answer.specs.Answer.{Answer, gives, bound, passed, followed, same_given, refuses_gives}
 use Rattle.answer.specs.Order.{Test, first_of, bare, InOrder, order_gives, order_refuse, order_past, order_bind, order_then, order_else}
 use Rattle.answer.specs.Tools.{neither}
 use Rattle.answer.specs.Lists.{order_either, order_under, order_skip, order_not, order_map}
 use Rattle.divider.specs.Frequency.{over}
-use Rattle.tree.specs.declared.HseFrequency.{HseFrequency}
-use Rattle.tree.specs.declared.Output.{Output}
-use Rattle.tree.specs.declared.Output.TheVariants as output
 use Rattle.tree.specs.Order.{no_hse, no_output}
 use Rattle.pll32.specs.declared.Part.TheVariants as part
 use Rattle.pll32.specs.declared.Source.{Source}
 use Rattle.pll32.specs.declared.Source.TheVariants as from
-use Rattle.pll32.specs.Pll.{hse_frequency_of, too_wide, wide_setting, pll_output_of}
+use Rattle.divider.specs.declared.Frequency.{Frequency}
+use Rattle.tree.specs.Tree.{hse_frequency_of}
+use Rattle.pll32.specs.Pll.{too_wide, wide_setting, pll_output_of}
 use Rattle.pll32.specs.Order.{from_hse, source_hz, over32, codes_tests}
 use Rattle.pll32.proofs.Order.{source_else, pll_order, codes_order, configured_where, decoded_order}
 use Rattle.v30x.specs.declared.PllSource.{PllSource}
 use Rattle.v30x.specs.declared.PllSource.TheVariants as source
 use Rattle.v30x.specs.declared.Pll.{Pll}
-use Rattle.v30x.specs.declared.Pll.TheVariants as pll
-use Rattle.v30x.specs.declared.HsPll.{HsPll}
-use Rattle.v30x.specs.declared.HsPll.TheVariants as hspll
 use Rattle.v30x.specs.declared.Config.{Config}
 use Rattle.v30x.specs.declared.Fields.{Fields}
-use Rattle.v30x.specs.V30x.{wide_pll, wide_hs_pll, wide_config, from_hsi, setting_of, pll_from_oscillator_of, configured_pll_of, pllx_present, reference_allowed, usbhs_of, sources_of, check_of, setting_in, wide_fields, decode_of, written_of, fields_of}
+use Rattle.v30x.specs.V30x.{wide_pll, wide_hs_pll, wide_config, from_hsi, setting_of, pll_from_oscillator_of, configured_pll_of, reference_allowed, usbhs_of, sources_of, check_of, setting_in, wide_fields, decode_of, written_of, fields_of}
 use Rattle.v30x.specs.Order.{check_tests, decode_tests, fields_tests, has_pll, has_usbhs, in_use_tests, mul_code, pll_from_hse, pll_from_hsi, pll_from_pll2, pll_hz, prediv_code, usbhs_code}
 
 -- the PLL's part, once its codes are in their fields
-abbrev pll_tests : HseFrequency → PllSource → Pll → List Test
+abbrev pll_tests : Option ℕ → PllSource → Option Pll → List Test
 pll_tests h s p =
     (27, has_pll p && pll_from_pll2 s)
     ∷ (3, has_pll p && (pll_from_hse s && no_hse h))
@@ -36,61 +32,61 @@ pll_tests h s p =
     ∷ (25, has_pll p && (pll_from_hsi s && leb 2 (prediv_code p)))
     ∷ []
 
-pll_part : (h : HseFrequency) (s : PllSource) (p : Pll) → wide_pll p ≡ false → InOrder (pll_tests h s p) (configured_pll_of h s p)
+pll_part : (h : Option ℕ) (s : PllSource) (p : Option Pll) → wide_pll p ≡ false → InOrder (pll_tests h s p) (configured_pll_of h s p)
 unfolding configured_pll_of pll_from_oscillator_of
-pll_part h s pll.Absent narrow = record { goes = refl }
-pll_part h source.Pll2 (pll.Present prediv mul) narrow = record { goes = refl }
-pll_part h source.Hsi (pll.Present prediv mul) narrow =
+pll_part h s None narrow = record { goes = refl }
+pll_part h source.Pll2 (Some p) narrow = record { goes = refl }
+pll_part h source.Hsi (Some p) narrow =
     order_not
-    (order_bind (pll_output_of part.V30x h (setting_of from.Hsi prediv mul)) (order_skip narrow (pll_order part.V30x h (setting_of from.Hsi prediv mul))) (λ x e.
-    order_past 25 (leb 2 prediv) (λ e. order_gives)))
-pll_part h source.Hse (pll.Present prediv mul) narrow =
+    (order_bind (pll_output_of part.V30x h (setting_of from.Hsi p.prediv p.mul)) (order_skip narrow (pll_order part.V30x h (setting_of from.Hsi p.prediv p.mul))) (λ x e.
+    order_past 25 (leb 2 p.prediv) (λ e. order_gives)))
+pll_part h source.Hse (Some p) narrow =
     order_not
-    (order_bind (pll_output_of part.V30x h (setting_of from.Hse prediv mul)) (order_skip narrow (pll_order part.V30x h (setting_of from.Hse prediv mul))) (λ x e.
+    (order_bind (pll_output_of part.V30x h (setting_of from.Hse p.prediv p.mul)) (order_skip narrow (pll_order part.V30x h (setting_of from.Hse p.prediv p.mul))) (λ x e.
     order_past 25 false (λ e. order_gives)))
 
 -- USBHS's
-abbrev usbhs_tests : HseFrequency → Source → HsPll → List Test
+abbrev usbhs_tests : Option ℕ → Source → Option ℕ → List Test
 usbhs_tests h s p =
     (3, has_usbhs p && (from_hse s && no_hse h))
     ∷ (8, has_usbhs p && not (reference_allowed (source_hz s h / (usbhs_code p + 1))))
     ∷ []
 
-usbhs_part : (h : HseFrequency) (s : Source) (p : HsPll) → InOrder (usbhs_tests h s p) (usbhs_of h s p)
+usbhs_part : (h : Option ℕ) (s : Source) (p : Option ℕ) → InOrder (usbhs_tests h s p) (usbhs_of h s p)
 unfolding usbhs_of over
-usbhs_part h s hspll.Absent = record { goes = refl }
-usbhs_part h s (hspll.Present pre) =
+usbhs_part h s None = record { goes = refl }
+usbhs_part h s (Some pre) =
     order_else (source_else s h) (λ x e. rw e (order_refuse 8 (not (reference_allowed (source_hz s h / (pre + 1))))))
 
 -- there is an output where a PLL is configured
-fed_there : (h : HseFrequency) (s : Source) (prediv mul : ℕ) {out : Output} → pll_from_oscillator_of h s prediv mul ≡ gives out → no_output out ≡ false
+fed_there : (h : Option ℕ) (s : Source) (prediv mul : ℕ) {out : Option Frequency} → pll_from_oscillator_of h s prediv mul ≡ gives out → no_output out ≡ false
 unfolding pll_from_oscillator_of
 fed_there h s prediv mul e =
     let made = bound (pll_output_of part.V30x h (setting_of s prediv mul)) _ e in
-    let tested = passed 25 (from_hsi s && leb 2 prediv) (gives (output.At made.value)) made.after in
-    subst (λ (o : Output). no_output o ≡ false) (same_given tested.after) refl
+    let tested = passed 25 (from_hsi s && leb 2 prediv) (gives (Some made.value)) made.after in
+    subst (λ (o : Option Frequency). no_output o ≡ false) (same_given tested.after) refl
 
-pll_there_lem : (h : HseFrequency) (s : PllSource) (p : Pll) {out : Output} → configured_pll_of h s p ≡ gives out → no_output out ≡ not (has_pll p)
+pll_there_lem : (h : Option ℕ) (s : PllSource) (p : Option Pll) {out : Option Frequency} → configured_pll_of h s p ≡ gives out → no_output out ≡ not (has_pll p)
 unfolding configured_pll_of
-pll_there_lem h s pll.Absent e = subst (λ (o : Output). no_output o ≡ true) (same_given e) refl
-pll_there_lem h source.Hsi (pll.Present prediv mul) e = fed_there h from.Hsi prediv mul e
-pll_there_lem h source.Hse (pll.Present prediv mul) e = fed_there h from.Hse prediv mul e
-pll_there_lem h source.Pll2 (pll.Present prediv mul) e = refuses_gives e
+pll_there_lem h s None e = subst (λ (o : Option Frequency). no_output o ≡ true) (same_given e) refl
+pll_there_lem h source.Hsi (Some p) e = fed_there h from.Hsi p.prediv p.mul e
+pll_there_lem h source.Hse (Some p) e = fed_there h from.Hse p.prediv p.mul e
+pll_there_lem h source.Pll2 (Some p) e = refuses_gives e
 
-sources_there : (h : HseFrequency) (c : Config) {out : Output} → sources_of h c ≡ gives out → no_output out ≡ not (has_pll c.pll)
+sources_there : (h : Option ℕ) (c : Config) {out : Option Frequency} → sources_of h c ≡ gives out → no_output out ≡ not (has_pll c.pll)
 unfolding sources_of
 sources_there h c e =
-    let main = bound (configured_pll_of h c.pll_src c.pll) _ (passed 27 (pllx_present c.pllx) _ e).after in
+    let main = bound (configured_pll_of h c.pll_src c.pll) _ (passed 27 c.pllx _ e).after in
     let usbhs = followed (usbhs_of h c.hspll_src c.hspll) _ main.after in
-    subst (λ (o : Output). no_output o ≡ not (has_pll c.pll)) (same_given usbhs.after) (pll_there_lem h c.pll_src c.pll main.gave)
+    subst (λ (o : Option Frequency). no_output o ≡ not (has_pll c.pll)) (same_given usbhs.after) (pll_there_lem h c.pll_src c.pll main.gave)
 
-wide_pll_lem : (p : Pll) → wide_pll p ≡ (leb 16 (prediv_code p) || leb 16 (mul_code p))
-wide_pll_lem pll.Absent = refl
-wide_pll_lem (pll.Present prediv mul) = refl
+wide_pll_lem : (p : Option Pll) → wide_pll p ≡ (leb 16 (prediv_code p) || leb 16 (mul_code p))
+wide_pll_lem None = refl
+wide_pll_lem (Some p) = refl
 
-wide_usbhs : (p : HsPll) → wide_hs_pll p ≡ leb 8 (usbhs_code p)
-wide_usbhs hspll.Absent = refl
-wide_usbhs (hspll.Present pre) = refl
+wide_usbhs : (p : Option ℕ) → wide_hs_pll p ≡ leb 8 (usbhs_code p)
+wide_usbhs None = refl
+wide_usbhs (Some pre) = refl
 
 check_order : (c : Config) → InOrder (check_tests c) (check_of c)
 unfolding check_of sources_of wide_config
@@ -102,7 +98,7 @@ check_order c =
     let all = order_past 28 (pll || usbhs || codes) (λ wide.
     let narrow = neither (pll || usbhs) codes wide in
     order_bind (sources_of h c)
-    (order_past 27 (pllx_present c.pllx) (λ e.
+    (order_past 27 c.pllx (λ e.
     order_bind (configured_pll_of h c.pll_src c.pll) (pll_part h c.pll_src c.pll (neither pll usbhs narrow.0).0) (λ out e.
     order_then (usbhs_of h c.hspll_src c.hspll) (usbhs_part h c.hspll_src c.hspll) (λ u e. order_gives)))) (λ out e.
     configured_where part.V30x h out c.sys c.ahb_pre c.apb1_pre c.apb2_pre (sources_there h c e) narrow.1)) in
@@ -135,7 +131,7 @@ mul_narrow prediv1 mul codes h =
     let both = neither (wide_setting prediv1 mul) codes h in
     rw (neither (leb 16 prediv1) (leb 16 mul) both.0).1 both.1
 
-by_bits : (sws prediv1 mul hpre ppre1 ppre2 : ℕ) (h : HseFrequency) (prediv1src pllsrc hsipre : Bool) →
+by_bits : (sws prediv1 mul hpre ppre1 ppre2 : ℕ) (h : Option ℕ) (prediv1src pllsrc hsipre : Bool) →
     let f : Fields = record {
       sws = sws;
       pllsrc = pllsrc;
@@ -162,6 +158,6 @@ by_bits sws prediv1 mul hpre ppre1 ppre2 h pll2 false false =
     order_past 27 (eqb sws 2 && false && pll2) (λ e.
     order_skip (mul_narrow prediv1 mul (too_wide sws hpre ppre1 ppre2) narrow) (decoded_order part.V30x h (record { source = from.Hsi; prediv = 1; mul = mul }) sws hpre ppre1 ppre2)))
 
-pub decode_in_order : (f : Fields) (h : HseFrequency) → bare (decode_of f h) ≡ first_of (decode_tests f h)
+pub decode_in_order : (f : Fields) (h : Option ℕ) → bare (decode_of f h) ≡ first_of (decode_tests f h)
 decode_in_order f h =
     (fields_codes f (by_bits f.sws f.prediv1 f.pllmul f.hpre f.ppre1 f.ppre2 h f.prediv1src f.pllsrc f.hsipre)).goes

@@ -1,37 +1,27 @@
 -- The V4x7 check of document 01, "V4x7 check, in order". A `do` block refuses by its first refusal. 000 is v4x7.rs.
 -- Assumes nothing.
-use Rattle.std.specs.Prelude.{◌≡◌, refl, Bool, true, false, cond, not, ◌&&◌, ◌||◌, List, [], ◌∷◌, ℕ, ◌+◌, ◌*◌, ◌/◌, ltb, leb, eqb}
-use Rattle.answer.specs.Answer.{Answer, gives, refuses, refuse, ◌>>=◌, ◌>>◌, settled_by}
+use Rattle.std.specs.Prelude.{Bool, true, false, cond, not, Option, None, Some, ◌&&◌, ◌||◌, List, [], ◌∷◌, ℕ, ◌+◌, ◌*◌, ◌/◌, ltb, leb, eqb}
+use Rattle.answer.specs.Answer.{Answer, gives, refuse, ◌>>=◌, ◌>>◌}
 use Rattle.answer.specs.Tests.{every}
 use Rattle.divider.specs.declared.Frequency.{Frequency}
 use Rattle.divider.specs.Frequency.{whole, over}
-use Rattle.tree.specs.declared.HseFrequency.{HseFrequency}
-use Rattle.tree.specs.declared.HseFrequency.TheVariants as frequency
-use Rattle.tree.specs.declared.Output.{Output}
-use Rattle.tree.specs.declared.Output.TheVariants as output
+use Rattle.tree.specs.declared.Hse.{Hse}
+use Rattle.tree.specs.Tree.{hse_frequency_of}
 use Rattle.v4x7_rules.specs.Rules.{hse_in_range, used_hse_of, main_pll_of, eth_pll_of, reference_code_of, sys_pll_of, buses_of, adc_from_hclk_of, adc_from_usb_hs_of}
-use Rattle.v4x7.specs.declared.Hse.{Hse}
-use Rattle.v4x7.specs.declared.Hse.TheVariants as hse
-use Rattle.v4x7.specs.declared.Pll.{Pll}
-use Rattle.v4x7.specs.declared.Pll.TheVariants as pll
-use Rattle.v4x7.specs.declared.HsPll.{HsPll}
-use Rattle.v4x7.specs.declared.HsPll.TheVariants as hspll
 use Rattle.v4x7.specs.declared.AdcClockSource.{AdcClockSource}
 use Rattle.v4x7.specs.declared.AdcClockSource.TheVariants as adc
 use Rattle.v4x7.specs.declared.Config.{Config}
 use Rattle.v4x7.specs.declared.ClockRecord.{ClockRecord}
-use Rattle.v4x7.specs.declared.Checked.{Checked}
-use Rattle.v4x7.specs.declared.Checked.TheVariants as checked
 
 -- Codes that have a name in 000.
 
-abbrev pub named_pll : Pll → Bool
-named_pll pll.Absent = true
-named_pll (pll.Mul m) = leb m 31
+abbrev pub named_pll : Option ℕ → Bool
+named_pll None = true
+named_pll (Some m) = leb m 31
 
-abbrev pub named_hs_pll : HsPll → Bool
-named_hs_pll hspll.Absent = true
-named_hs_pll (hspll.From s) = leb s 2
+abbrev pub named_hs_pll : Option ℕ → Bool
+named_hs_pll None = true
+named_hs_pll (Some s) = leb s 2
 
 abbrev pub named_ahb : ℕ → Bool
 named_ahb a = eqb a 0 || leb 8 a && leb a 15
@@ -57,62 +47,57 @@ named_of c = every (named c)
 
 -- Parts that are configured.
 
-abbrev pub has_hse : Hse → Bool
-has_hse hse.Absent = false
-has_hse (hse.Present bypass hz) = true
+abbrev pub has_hse : Option Hse → Bool
+has_hse None = false
+has_hse (Some hse) = true
 
-abbrev pub has_main : Pll → Bool
-has_main pll.Absent = false
-has_main (pll.Mul m) = true
+abbrev pub has_main : Option ℕ → Bool
+has_main None = false
+has_main (Some m) = true
 
-abbrev pub has_usb_hs : HsPll → Bool
-has_usb_hs hspll.Absent = false
-has_usb_hs (hspll.From s) = true
-
--- HSE's frequency or none, which is all that the rules and the decoder take
-abbrev pub hse_frequency_of : Hse → HseFrequency
-hse_frequency_of hse.Absent = frequency.Absent
-hse_frequency_of (hse.Present bypass hz) = frequency.Hz hz
+abbrev pub has_usb_hs : Option ℕ → Bool
+has_usb_hs None = false
+has_usb_hs (Some s) = true
 
 -- RNG (1, 2)
-unfoldable pub rng_of : ℕ → HsPll → Bool → Answer (Unit {0})
+unfoldable pub rng_of : ℕ → Option ℕ → Bool → Answer (Unit {0})
 rng_of source hspll eth = do
   refuse 1 (eqb source 1 && not (has_usb_hs hspll))
   refuse 2 (eqb source 2 && not eth)
 
 -- HSE if present (4)
-unfoldable pub hse_present_of : HseFrequency → Answer (Unit {0})
-hse_present_of frequency.Absent = gives tt
-hse_present_of (frequency.Hz hz) = hse_in_range hz
+unfoldable pub hse_present_of : Option ℕ → Answer (Unit {0})
+hse_present_of None = gives tt
+hse_present_of (Some hz) = hse_in_range hz
 
 -- main PLL if present, used or not: 3 where its source is HSE and absent, then 5
-unfoldable pub main_of : HseFrequency → ℕ → Pll → Answer Output
-main_of hse source pll.Absent = gives output.Absent
-main_of hse source (pll.Mul m) = do
+unfoldable pub main_of : Option ℕ → ℕ → Option ℕ → Answer (Option Frequency)
+main_of hse source None = gives None
+main_of hse source (Some m) = do
   main ← main_pll_of hse (eqb source 1) m
-  gives (output.At main)
+  gives (Some main)
 
 -- ETH PLL: 3, 6
-unfoldable pub eth_of : HseFrequency → Bool → Answer (Unit {0})
+unfoldable pub eth_of : Option ℕ → Bool → Answer (Unit {0})
 eth_of hse false = gives tt
 eth_of hse true = eth_pll_of hse
 
 -- USBHS PLL: HSE source 3; ETH source 7, else 20 MHz
-unfoldable pub reference_of : HseFrequency → Bool → ℕ → Answer Frequency
+unfoldable pub reference_of : Option ℕ → Bool → ℕ → Answer Frequency
 reference_of hse eth source = cond (eqb source 0) (used_hse_of hse) (do
   refuse 7 (eqb source 2 && not eth)
   gives (whole 20000000))
 
 -- then 8
-unfoldable pub usb_hs_of : HseFrequency → Bool → HsPll → Answer (Unit {0})
-usb_hs_of hse eth hspll.Absent = gives tt
-usb_hs_of hse eth (hspll.From source) = do
+unfoldable pub usb_hs_of : Option ℕ → Bool → Option ℕ → Answer (Unit {0})
+usb_hs_of hse eth None = gives tt
+usb_hs_of hse eth (Some source) = do
   x ← reference_of hse eth source
   reference_code_of x.hz
   gives tt
 
 -- RNG, HSE, main PLL, ETH PLL, USBHS PLL; the main PLL's output
-unfoldable pub sources_of : Config → Answer Output
+unfoldable pub sources_of : Config → Answer (Option Frequency)
 sources_of c = do
   rng_of c.rng_src c.hspll c.ethpll
   hse_present_of (hse_frequency_of c.hse)
@@ -122,14 +107,14 @@ sources_of c = do
   gives main
 
 -- PLL by source (9, 10, 11)
-unfoldable pub sys_pll_input_of : Output → HsPll → Bool → ℕ → Answer Frequency
+unfoldable pub sys_pll_input_of : Option Frequency → Option ℕ → Bool → ℕ → Answer Frequency
 sys_pll_input_of main hspll eth source = do
   refuse 10 ((eqb source 0 || eqb source 2) && not (has_usb_hs hspll))
   refuse 11 ((eqb source 1 || eqb source 3) && not eth)
   sys_pll_of source main
 
 -- SYSCLK: HSI; HSE (3); PLL by source, then divided by 1..8
-unfoldable pub sysclk_of : Output → Config → Answer Frequency
+unfoldable pub sysclk_of : Option Frequency → Config → Answer Frequency
 sysclk_of main c = cond (eqb c.sys 0) (gives (whole 20000000)) (cond (eqb c.sys 1) (used_hse_of (hse_frequency_of c.hse)) (do
   input ← sys_pll_input_of main c.hspll c.ethpll c.syspll_src
   gives (over input (c.syspll_pre + 1))))
@@ -141,7 +126,7 @@ system_of c = do
   sysclk_of main c
 
 -- ADC 13, 14: source SYSCLK or 480 MHz, and the total divisor
-unfoldable pub adc_ratio_of : ℕ → ℕ → ℕ → ℕ → HsPll → AdcClockSource → Answer (ℕ × ℕ)
+unfoldable pub adc_ratio_of : ℕ → ℕ → ℕ → ℕ → Option ℕ → AdcClockSource → Answer (ℕ × ℕ)
 adc_ratio_of sys ahb apb2 pre hspll adc.Hclk = adc_from_hclk_of sys ahb apb2 pre
 adc_ratio_of sys ahb apb2 pre hspll (adc.UsbHsPll d) = do
   refuse 13 (not (has_usb_hs hspll))
@@ -172,26 +157,3 @@ check_of c = do
   refuse 28 (not (named_of c))
   sys ← system_of c
   record_of sys c
-
--- What a `Checked` says; two that say the same are equal.
-
-abbrev pub checked_says : Checked → Answer ClockRecord
-checked_says (checked.Accepted x) = gives x
-checked_says (checked.Refused n) = refuses n
-
--- the number of a check that refuses, 0 of one that accepts
-abbrev pub refused_of : Checked → ℕ
-refused_of (checked.Accepted x) = 0
-refused_of (checked.Refused n) = n
-
-checked_of : Answer ClockRecord → Checked
-checked_of (gives x) = checked.Accepted x
-checked_of (refuses n) = checked.Refused n
-
-checked_again : (r : Checked) → checked_of (checked_says r) ≡ r
-unfolding checked_of
-checked_again (checked.Accepted x) = refl
-checked_again (checked.Refused n) = refl
-
-pub checked_settled : (r s : Checked) → checked_says r ≡ checked_says s → r ≡ s
-checked_settled = settled_by checked_says checked_of checked_again

@@ -1,36 +1,33 @@
 -- The order of the check's refusals: document 01, "V4x7 check, in order", as a flat list over the configuration alone.
 -- Assumes nothing.
-use Rattle.std.specs.Prelude.{Bool, true, false, cond, not, ◌&&◌, ◌||◌, List, [], ◌∷◌, ℕ, ◌+◌, ◌*◌, ◌/◌, ltb, eqb, get_or}
+use Rattle.std.specs.Prelude.{Bool, true, false, cond, not, Option, None, Some, ◌&&◌, ◌||◌, List, [], ◌∷◌, ℕ, ◌+◌, ◌*◌, ◌/◌, ltb, eqb, get_or}
 use Rattle.answer.specs.Order.{Test}
 use Rattle.divider.specs.declared.Family.TheVariants.{V4x7}
 use Rattle.divider.specs.Divide.{ahb_divisor, apb_divisor}
 use Rattle.tree.specs.Order.{hse_hz}
+use Rattle.tree.specs.Tree.{hse_frequency_of}
 use Rattle.v4x7_rules.specs.Plain.{outside, main_pll_hz, allowed, sys_pll_hz}
-use Rattle.v4x7.specs.declared.Pll.{Pll}
-use Rattle.v4x7.specs.declared.Pll.TheVariants as pll
-use Rattle.v4x7.specs.declared.HsPll.{HsPll}
-use Rattle.v4x7.specs.declared.HsPll.TheVariants as hspll
 use Rattle.v4x7.specs.declared.AdcClockSource.{AdcClockSource}
 use Rattle.v4x7.specs.declared.AdcClockSource.TheVariants as adc
 use Rattle.v4x7.specs.declared.Config.{Config}
-use Rattle.v4x7.specs.Check.{named_of, has_hse, has_main, has_usb_hs, hse_frequency_of}
+use Rattle.v4x7.specs.Check.{named_of, has_hse, has_main, has_usb_hs}
 
 -- The parts as plain numbers, 0 for what is not there.
 
 abbrev pub hse : Config → ℕ
 hse c = hse_hz (hse_frequency_of c.hse)
 
-abbrev pub multiplier : Pll → ℕ
-multiplier pll.Absent = 0
-multiplier (pll.Mul m) = m
+abbrev pub multiplier : Option ℕ → ℕ
+multiplier None = 0
+multiplier (Some m) = m
 
 abbrev pub main_pll : Config → ℕ
 main_pll c = main_pll_hz (hse_frequency_of c.hse) (eqb c.pll_src 1) (multiplier c.pll)
 
 -- the USBHS PLL comes from source s; its reference
-abbrev pub usb_hs_from : ℕ → HsPll → Bool
-usb_hs_from s hspll.Absent = false
-usb_hs_from s (hspll.From source) = eqb source s
+abbrev pub usb_hs_from : ℕ → Option ℕ → Bool
+usb_hs_from s None = false
+usb_hs_from s (Some source) = eqb source s
 
 abbrev pub reference : Config → ℕ
 reference c = cond (usb_hs_from 0 c.hspll) (hse c) 20000000

@@ -1,21 +1,19 @@
 -- The order of the rules' refusals: a flat list for each rule, and that the rule refuses by the first of its list, or else gives its plain number.
 -- The theorems stand in proofs/Order.antt. Assumes nothing.
-use Rattle.std.specs.Prelude.{Bool, not, ◌&&◌, ◌||◌, List, [], ◌∷◌, ℕ, ◌+◌, ◌*◌, ◌/◌, ltb, leb, eqb}
+use Rattle.std.specs.Prelude.{Bool, not, ◌&&◌, ◌||◌, Option, List, [], ◌∷◌, ℕ, ◌+◌, ◌*◌, ◌/◌, ltb, leb, eqb}
 use Rattle.answer.specs.Order.{Test}
 use Rattle.divider.specs.declared.Family.TheVariants.{V4x7}
 use Rattle.divider.specs.declared.Frequency.{Frequency}
 use Rattle.divider.specs.Divide.{ahb_divisor, apb_divisor}
-use Rattle.tree.specs.declared.HseFrequency.{HseFrequency}
-use Rattle.tree.specs.declared.Output.{Output}
 use Rattle.tree.specs.Order.{no_hse, hse_hz, no_output}
 use Rattle.v4x7_rules.specs.Plain.{outside, main_pll_hz}
 
 -- HSE needed: 3, then 4
-abbrev pub used_hse_tests : HseFrequency → List Test
+abbrev pub used_hse_tests : Option ℕ → List Test
 used_hse_tests h = (3, no_hse h) ∷ (4, outside 5000000 32000000 (hse_hz h)) ∷ []
 
 -- the main PLL: 28; 3, 4 where its source is HSE; 5
-abbrev pub main_pll_tests : HseFrequency → Bool → ℕ → List Test
+abbrev pub main_pll_tests : Option ℕ → Bool → ℕ → List Test
 main_pll_tests h source mul =
     (28, leb 32 mul)
     ∷ (3, source && no_hse h)
@@ -24,11 +22,11 @@ main_pll_tests h source mul =
     ∷ []
 
 -- the ETH PLL: 3, 4, 6
-abbrev pub eth_pll_tests : HseFrequency → List Test
+abbrev pub eth_pll_tests : Option ℕ → List Test
 eth_pll_tests h = (3, no_hse h) ∷ (4, outside 5000000 32000000 (hse_hz h)) ∷ (6, not (eqb (hse_hz h) 25000000)) ∷ []
 
 -- SYSPLL's input: 28; 9 where its source is the main PLL and there is none; 19
-abbrev pub sys_pll_tests : ℕ → Output → List Test
+abbrev pub sys_pll_tests : ℕ → Option Frequency → List Test
 sys_pll_tests source main =
     (28, leb 8 source)
     ∷ (9, eqb source 6 && no_output main)

@@ -1,7 +1,6 @@
 -- The V4x7 rules' numbers, for the lists of refusals: plain, and 0 for what is not there.
 -- Assumes nothing.
-use Rattle.std.specs.Prelude.{Bool, cond, ◌||◌, [], ◌∷◌, ℕ, ◌*◌, ◌/◌, ltb, eqb, get_or}
-use Rattle.tree.specs.declared.HseFrequency.{HseFrequency}
+use Rattle.std.specs.Prelude.{Bool, cond, ◌||◌, Option, [], ◌∷◌, ℕ, ◌*◌, ◌/◌, ltb, eqb, get_or}
 use Rattle.tree.specs.Order.{hse_hz}
 use Rattle.v4x7_rules.specs.Rules.{doubled}
 
@@ -9,7 +8,7 @@ abbrev pub outside : ℕ → ℕ → ℕ → Bool
 outside low high n = ltb n low || ltb high n
 
 -- the main PLL: HSE where the source bit is set, else HSI, by the doubled multiplier; the product first
-abbrev pub main_pll_hz : HseFrequency → Bool → ℕ → ℕ
+abbrev pub main_pll_hz : Option ℕ → Bool → ℕ → ℕ
 main_pll_hz hse source mul = cond source (hse_hz hse) 20000000 * get_or doubled mul 0 / 2
 
 -- USBHS references: 25, 20, 24, 32 MHz, codes 0, 1, 2, 3

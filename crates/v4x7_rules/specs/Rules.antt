@@ -1,28 +1,22 @@
 -- The rules that the V4x7 check and the V4x7 decoder of document 01 share. Each code too wide for its field: 28 before anything else.
 -- Assumes nothing.
-use Rattle.std.specs.Prelude.{◌≡◌, refl, Bool, cond, not, ◌||◌, List, [], ◌∷◌, ℕ, ◌+◌, ◌*◌, ltb, leb, eqb, get_or}
-use Rattle.answer.specs.Answer.{Answer, gives, refuses, refuse, ◌>>=◌, ◌>>◌, settled_by}
+use Rattle.std.specs.Prelude.{Bool, cond, not, ◌||◌, Option, None, Some, List, [], ◌∷◌, ℕ, ◌+◌, ◌*◌, ltb, leb, eqb, get_or}
+use Rattle.answer.specs.Answer.{Answer, gives, refuses, refuse, ◌>>=◌, ◌>>◌}
 use Rattle.divider.specs.declared.Family.TheVariants.{V4x7}
 use Rattle.divider.specs.Divide.{ahb_of, apb_of}
 use Rattle.divider.specs.declared.Frequency.{Frequency}
 use Rattle.divider.specs.Frequency.{whole, times, over}
 use Rattle.tree.specs.declared.Clocks.{Clocks}
-use Rattle.tree.specs.declared.HseFrequency.{HseFrequency}
-use Rattle.tree.specs.declared.HseFrequency.TheVariants as hse
-use Rattle.tree.specs.declared.Output.{Output}
-use Rattle.tree.specs.declared.Output.TheVariants as output
 use Rattle.tree.specs.Tree.{clocks_of, product_of}
-use Rattle.v4x7_rules.specs.declared.Ratio.{Ratio}
-use Rattle.v4x7_rules.specs.declared.Ratio.TheVariants as ratio
 
 -- HSE outside 5,000,000..32,000,000: 4
 unfoldable pub hse_in_range : ℕ → Answer (Unit {0})
 hse_in_range hz = refuse 4 (ltb hz 5000000 || ltb 32000000 hz)
 
 -- HSE needed, no frequency: 3; then its range. The check has asked for the range of an HSE that is there before anything needs it
-unfoldable pub used_hse_of : HseFrequency → Answer Frequency
-used_hse_of hse.Absent = refuses 3
-used_hse_of (hse.Hz hz) = do
+unfoldable pub used_hse_of : Option ℕ → Answer Frequency
+used_hse_of None = refuses 3
+used_hse_of (Some hz) = do
   hse_in_range hz
   gives (whole hz)
 
@@ -33,11 +27,11 @@ doubled =
     ∷ 52 ∷ 56 ∷ 60 ∷ 64 ∷ 68 ∷ 72 ∷ 76 ∷ 80 ∷ []
 
 -- the main PLL's input: HSE where the source bit is set, else HSI, 20 MHz
-unfoldable pub main_pll_input : HseFrequency → Bool → Answer Frequency
+unfoldable pub main_pll_input : Option ℕ → Bool → Answer Frequency
 main_pll_input hse source = cond source (used_hse_of hse) (gives (whole 20000000))
 
 -- its output = input x doubled / 2, product first; outside 100..400 MHz: 5
-unfoldable pub main_pll_of : HseFrequency → Bool → ℕ → Answer Frequency
+unfoldable pub main_pll_of : Option ℕ → Bool → ℕ → Answer Frequency
 main_pll_of hse source mul = do
   refuse 28 (leb 32 mul)
   input ← main_pll_input hse source
@@ -45,7 +39,7 @@ main_pll_of hse source mul = do
   gives (product_of input (get_or doubled mul 0))
 
 -- ETH PLL needed, HSE not 25 MHz: 6
-unfoldable pub eth_pll_of : HseFrequency → Answer (Unit {0})
+unfoldable pub eth_pll_of : Option ℕ → Answer (Unit {0})
 eth_pll_of hse = do
   input ← used_hse_of hse
   refuse 6 (not (eqb input.hz 25000000))
@@ -63,11 +57,11 @@ reference_code_of hz =
 unfoldable pub two_thirds : ℕ → Frequency
 two_thirds hz = over (times (whole hz) 2) 3
 
-abbrev pub main_output : Output → Answer Frequency
-main_output output.Absent = refuses 9
-main_output (output.At main) = gives main
+abbrev pub main_output : Option Frequency → Answer Frequency
+main_output None = refuses 9
+main_output (Some main) = gives main
 
-unfoldable pub sys_pll_of : ℕ → Output → Answer Frequency
+unfoldable pub sys_pll_of : ℕ → Option Frequency → Answer Frequency
 sys_pll_of source main = do
   refuse 28 (leb 8 source)
   cond (eqb source 0) (gives (whole 480000000))
@@ -104,21 +98,3 @@ adc_from_usb_hs_of d ppre2 adcpre = do
   total ← total_of d ppre2 adcpre
   refuse 14 (ltb d 1 || ltb 32 d)
   gives (480000000, total)
-
--- What a `Ratio` says; two that say the same are equal.
-
-abbrev pub ratio_says : Ratio → Answer (ℕ × ℕ)
-ratio_says (ratio.Of source divisor) = gives (source, divisor)
-ratio_says (ratio.Refused n) = refuses n
-
-ratio_of : Answer (ℕ × ℕ) → Ratio
-ratio_of (gives x) = ratio.Of x.0 x.1
-ratio_of (refuses n) = ratio.Refused n
-
-ratio_again : (r : Ratio) → ratio_of (ratio_says r) ≡ r
-unfolding ratio_of
-ratio_again (ratio.Of source divisor) = refl
-ratio_again (ratio.Refused n) = refl
-
-pub ratio_settled : (r s : Ratio) → ratio_says r ≡ ratio_says s → r ≡ s
-ratio_settled = settled_by ratio_says ratio_of ratio_again

@@ -1,17 +1,15 @@
 // The frequency rules of CH32V407/CH32V467, as the check of a configuration and the decoder of the registers share them.
 //
 // Where a rule needs HSE, HSE must be there and in range. The check has tested the range before, the decoder tests it where HSE is used.
-#![tactic(auto)]
+#![tactic(auto, using(divider::specs::Laws::ahb_given, divider::specs::Laws::apb_given), unfolding(crate::specs::Rules::hse_in_range, crate::specs::Rules::used_hse_of, crate::specs::Rules::main_pll_input, crate::specs::Rules::main_pll_of, crate::specs::Rules::eth_pll_of, crate::specs::Rules::reference_code_of, crate::specs::Rules::two_thirds, crate::specs::Rules::sys_pll_of, crate::specs::Rules::buses_of, crate::specs::Rules::total_of, crate::specs::Rules::adc_from_hclk_of, crate::specs::Rules::adc_from_usb_hs_of))]
 
 ghost use Rattle.std.specs.Prelude.{◌≡◌, ◌≤◌, ◌<◌};
-ghost use Rattle.answer.specs.Said.{reply_says, outcome_says};
-ghost use Rattle.divider.specs.Frequency.{rate_says};
-ghost use Rattle.tree.specs.Tree.{buses_says};
-ghost use Rattle.v4x7_rules.specs.Rules.{hse_in_range, used_hse_of, main_pll_input, main_pll_of, eth_pll_of, reference_code_of, two_thirds, main_output, sys_pll_of, buses_of, ratio_says, total_of, adc_from_hclk_of, adc_from_usb_hs_of};
+ghost use Rattle.answer.specs.Said.{says};
+ghost use Rattle.v4x7_rules.specs.Rules.{hse_in_range, used_hse_of, main_pll_input, main_pll_of, eth_pll_of, reference_code_of, two_thirds, main_output, sys_pll_of, buses_of, total_of, adc_from_hclk_of, adc_from_usb_hs_of};
 
-use answer::{Outcome, Reply};
-use divider::{Family, Frequency, Rate};
-use tree::{Buses, HseFrequency, Output};
+use answer::Refusal;
+use divider::{Family, Frequency};
+use tree::{Clocks, Prescalers};
 
 pub const HSI_FREQUENCY: u32 = 20_000_000;
 
@@ -24,93 +22,73 @@ const PLL_MUL_X2: [u8; 32] = [
     52, 56, 60, 64, 68, 72, 76, 80,
 ];
 
-// What the ADC divides: a source in Hz and its whole divisor, or a refusal number.
-#[derive(Clone, Copy)]
-pub enum Ratio {
-    Of { source: u32, divisor: u32 },
-    Refused(u8),
-}
-
 // Whether HSE's frequency is one that the chip takes.
-pub fn hse_in_range(hz: u32) -> Outcome
-    ensures { outcome_says result ≡ hse_in_range hz }
+pub fn hse_in_range(hz: u32) -> Result<(), Refusal>
+    ensures { says result ≡ hse_in_range hz }
 {
-    if (hz < 5_000_000) | (32_000_000 < hz) {
-        return Outcome::Refused(answer::HSE_OUT_OF_RANGE);
+    if hz < 5_000_000 || 32_000_000 < hz {
+        return Err(Refusal::HseOutOfRange);
     }
-    Outcome::Done
+    Ok(())
 }
 
 // HSE's frequency, where HSE is used.
-pub fn used_hse(hse: HseFrequency) -> Rate
-    ensures { rate_says result ≡ used_hse_of hse }
+pub fn used_hse(hse: Option<u32>) -> Result<Frequency, Refusal>
+    ensures { says result ≡ used_hse_of hse }
 {
-    let HseFrequency::Hz(hz) = hse else {
-        return Rate::Refused(answer::HSE_MISSING);
-    };
-    match hse_in_range(hz) {
-        Outcome::Refused(n) => Rate::Refused(n),
-        Outcome::Done => Rate::At(divider::hertz(hz)),
-    }
+    let hz = hse.ok_or(Refusal::HseMissing)?;
+    hse_in_range(hz)?;
+    Ok(divider::hertz(hz))
 }
 
 // What feeds the main PLL: HSE where its source bit is set, else HSI.
-fn main_pll_input(hse: HseFrequency, source: bool) -> Rate
-    ensures { rate_says result ≡ main_pll_input hse source }
+fn main_pll_input(hse: Option<u32>, source: bool) -> Result<Frequency, Refusal>
+    ensures { says result ≡ main_pll_input hse source }
 {
     if source {
         used_hse(hse)
     } else {
-        Rate::At(divider::hertz(HSI_FREQUENCY))
+        Ok(divider::hertz(HSI_FREQUENCY))
     }
 }
 
 // The main PLL's output, by its source bit and the code of its multiplier.
-pub fn main_pll(hse: HseFrequency, source: bool, mul: u8) -> Rate
-    ensures { rate_says result ≡ main_pll_of hse source mul }
+pub fn main_pll(hse: Option<u32>, source: bool, mul: u8) -> Result<Frequency, Refusal>
+    ensures { says result ≡ main_pll_of hse source mul }
 {
     if 32 <= mul {
-        return Rate::Refused(answer::CODE_NOT_ALLOWED);
+        return Err(Refusal::CodeNotAllowed);
     }
-    let rate = main_pll_input(hse, source);
-    let Rate::At(input) = rate else {
-        return rate;
-    };
-    let output = tree::product(input, PLL_MUL_X2[mul as usize]);
-    if (output.hz < 100_000_000) | (400_000_000 < output.hz) {
-        return Rate::Refused(answer::PLL_OUT_OF_RANGE);
+    let input = main_pll_input(hse, source)?;
+    let output = tree::product(input, PLL_MUL_X2[usize::from(mul)]);
+    if output.hz < 100_000_000 || 400_000_000 < output.hz {
+        return Err(Refusal::PllOutOfRange);
     }
-    Rate::At(Frequency {
-        hz: output.hz as u32,
-    })
+    // It fits, as is proved; `try_from` would have an error that never comes.
+    Ok(divider::hertz(output.hz as u32))
 }
 
 // Whether the ETH PLL can run: it takes HSE at 25 MHz alone.
-pub fn eth_pll(hse: HseFrequency) -> Outcome
-    ensures { outcome_says result ≡ eth_pll_of hse }
+pub fn eth_pll(hse: Option<u32>) -> Result<(), Refusal>
+    ensures { says result ≡ eth_pll_of hse }
 {
-    match used_hse(hse) {
-        Rate::Refused(n) => Outcome::Refused(n),
-        Rate::At(input) => {
-            if input.hz == 25_000_000 {
-                Outcome::Done
-            } else {
-                Outcome::Refused(answer::ETH_NEEDS_25_MHZ)
-            }
-        }
+    let input = used_hse(hse)?;
+    if input.hz != 25_000_000 {
+        return Err(Refusal::EthNeeds25Mhz);
     }
+    Ok(())
 }
 
 // The code of a reference that the USBHS PLL takes.
-pub fn reference_code(hz: u32) -> Reply
-    ensures { reply_says result ≡ reference_code_of hz }
+pub fn reference_code(hz: u32) -> Result<u32, Refusal>
+    ensures { says result ≡ reference_code_of hz }
 {
     match hz {
-        25_000_000 => Reply::Is(0),
-        20_000_000 => Reply::Is(1),
-        24_000_000 => Reply::Is(2),
-        32_000_000 => Reply::Is(3),
-        _ => Reply::Refused(answer::USBHS_REFERENCE),
+        25_000_000 => Ok(0),
+        20_000_000 => Ok(1),
+        24_000_000 => Ok(2),
+        32_000_000 => Ok(3),
+        _ => Err(Refusal::UsbhsReference),
     }
 }
 
@@ -123,91 +101,68 @@ fn two_thirds(hz: u32) -> Frequency
 }
 
 // The main PLL's output, where there is one.
-fn main_output(main: Output) -> Rate
-    ensures { rate_says result ≡ main_output main }
+fn main_output(main: Option<Frequency>) -> Result<Frequency, Refusal>
+    ensures { says result ≡ main_output main }
 {
-    match main {
-        Output::Absent => Rate::Refused(answer::SYSPLL_WITHOUT_PLL),
-        Output::At(frequency) => Rate::At(frequency),
-    }
+    main.ok_or(Refusal::SyspllWithoutPll)
 }
 
 // What SYSPLL takes in by its source, before its divisor; `main` is the main PLL's output.
-pub fn syspll_input(source: u8, main: Output) -> Rate
-    ensures { rate_says result ≡ sys_pll_of source main }
+pub fn syspll_input(source: u8, main: Option<Frequency>) -> Result<Frequency, Refusal>
+    ensures { says result ≡ sys_pll_of source main }
 {
     if 8 <= source {
-        return Rate::Refused(answer::CODE_NOT_ALLOWED);
+        return Err(Refusal::CodeNotAllowed);
     }
     match source {
-        0 => Rate::At(divider::hertz(USBHS_PLL_FREQUENCY)),
-        1 => Rate::At(divider::hertz(ETH_PLL_FREQUENCY)),
-        2 => Rate::At(two_thirds(USBHS_PLL_FREQUENCY)),
-        3 => Rate::At(two_thirds(ETH_PLL_FREQUENCY)),
+        0 => Ok(divider::hertz(USBHS_PLL_FREQUENCY)),
+        1 => Ok(divider::hertz(ETH_PLL_FREQUENCY)),
+        2 => Ok(two_thirds(USBHS_PLL_FREQUENCY)),
+        3 => Ok(two_thirds(ETH_PLL_FREQUENCY)),
         6 => main_output(main),
-        _ => Rate::Refused(answer::SYSPLL_SOURCE_RESERVED),
+        _ => Err(Refusal::SyspllSourceReserved),
     }
 }
 
 // The six clocks of a SYSCLK, with HCLK within its limit.
-pub fn bus_clocks(sysclk: Frequency, ahb: u8, apb1: u8, apb2: u8) -> Buses
-    ensures { buses_says result ≡ buses_of sysclk ahb apb1 apb2 }
+pub fn bus_clocks(sysclk: Frequency, codes: Prescalers) -> Result<Clocks, Refusal>
+    ensures { says result ≡ buses_of sysclk codes.ahb codes.apb1 codes.apb2 }
 {
-    let buses = tree::bus_clocks(Family::V4x7, sysclk, ahb, apb1, apb2);
-    let Buses::Run(clocks) = buses else {
-        return buses;
-    };
+    let clocks = tree::bus_clocks(Family::V4x7, sysclk, codes)?;
     if 200_000_000 < clocks.hclk {
-        return Buses::Refused(answer::HCLK_TOO_FAST);
+        return Err(Refusal::HclkTooFast);
     }
-    buses
+    Ok(clocks)
 }
 
 // The ADC's whole divisor: its source's own, APB2's, and 2, 4, 6 or 8.
-fn adc_divisor(first: u32, ppre2: u8, adcpre: u8) -> Reply
+fn adc_divisor(first: u32, ppre2: u8, adcpre: u8) -> Result<u32, Refusal>
     requires { first ≤ 512 }
-    ensures { reply_says result ≡ total_of first ppre2 adcpre }
+    ensures { says result ≡ total_of first ppre2 adcpre }
 {
     if 4 <= adcpre {
-        return Reply::Refused(answer::CODE_NOT_ALLOWED);
+        return Err(Refusal::CodeNotAllowed);
     }
-    let apb2 = divider::apb(ppre2);
-    let Reply::Is(p) = apb2 else {
-        return apb2;
-    };
-    Reply::Is(first * p * (2 * ((adcpre as u32) + 1)))
+    let apb2 = divider::apb(ppre2)?;
+    Ok(first * apb2 * (2 * (u32::from(adcpre) + 1)))
 }
 
-// The ADC on HCLK: SYSCLK by the AHB divisor, APB2's and its own.
-pub fn adc_from_hclk(sysclk: u32, hpre: u8, ppre2: u8, adcpre: u8) -> Ratio
-    ensures { ratio_says result ≡ adc_from_hclk_of sysclk hpre ppre2 adcpre }
+// The ADC on HCLK: SYSCLK, and its whole divisor by the AHB divisor, APB2's and its own.
+pub fn adc_from_hclk(sysclk: u32, hpre: u8, ppre2: u8, adcpre: u8) -> Result<(u32, u32), Refusal>
+    ensures { says result ≡ adc_from_hclk_of sysclk hpre ppre2 adcpre }
 {
-    match divider::ahb(Family::V4x7, hpre) {
-        Reply::Refused(n) => Ratio::Refused(n),
-        Reply::Is(ahb) => match adc_divisor(ahb, ppre2, adcpre) {
-            Reply::Refused(n) => Ratio::Refused(n),
-            Reply::Is(divisor) => Ratio::Of {
-                source: sysclk,
-                divisor,
-            },
-        },
-    }
+    let ahb = divider::ahb(Family::V4x7, hpre)?;
+    let total = adc_divisor(ahb, ppre2, adcpre)?;
+    Ok((sysclk, total))
 }
 
-// The ADC on the USBHS PLL: 480 MHz by a divisor, APB2's and its own.
-pub fn adc_from_usbhs(divisor: u8, ppre2: u8, adcpre: u8) -> Ratio
-    ensures { ratio_says result ≡ adc_from_usb_hs_of divisor ppre2 adcpre }
+// The ADC on the USBHS PLL: 480 MHz, and its whole divisor by a divisor, APB2's and its own.
+pub fn adc_from_usbhs(divisor: u8, ppre2: u8, adcpre: u8) -> Result<(u32, u32), Refusal>
+    ensures { says result ≡ adc_from_usb_hs_of divisor ppre2 adcpre }
 {
-    match adc_divisor(divisor as u32, ppre2, adcpre) {
-        Reply::Refused(n) => Ratio::Refused(n),
-        Reply::Is(total) => {
-            if (divisor < 1) | (32 < divisor) {
-                return Ratio::Refused(answer::ADC_DIVISOR);
-            }
-            Ratio::Of {
-                source: USBHS_PLL_FREQUENCY,
-                divisor: total,
-            }
-        }
+    let total = adc_divisor(u32::from(divisor), ppre2, adcpre)?;
+    if divisor < 1 || 32 < divisor {
+        return Err(Refusal::AdcDivisor);
     }
+    Ok((USBHS_PLL_FREQUENCY, total))
 }

@@ -1,5 +1,6 @@
 use mathlib.Core.Path.{◌≡◌, sym, ◌∙◌}
 use mathlib.Core.Bool.{false}
+use Rattle.answer.specs.declared.Refusal.TheVariants.{CodeNotAllowed}
 use Rattle.layout.proofs.Writing as writing
 use Rattle.image.specs.Image.{in_width, image_bytes}
 use Rattle.image.specs.Width.{wide}
@@ -14,7 +15,7 @@ unfolding image_bytes
 returns-then-not-in_width c =
     let args = c.args in
     let wide : in_width args.f ≡ false = sym c.in_width.ensures ∙ c.if-not-in_width.true in
-    writing.refused 8 (image_bytes args.f) args.out.now 28 c.if-out-lt8.false (rw wide)
+    writing.refused 8 (image_bytes args.f) args.out.now CodeNotAllowed c.if-out-lt8.false (rw wide)
 
 -- past both tests there is room, and each code is in width
 pub early-requires : goal.early-requires

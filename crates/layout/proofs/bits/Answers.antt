@@ -5,7 +5,7 @@ use native.Mathlib.Omega.{arith}
 use lib.ListN.{get_or}
 use lib.Pow.{pow_mono, shl_lt}
 use Rattle.layout.specs.Bits.{bits_at}
-use Rattle.layout.proofs.Reading.{bits_lt, bits_on, first_bits, up_to_all}
+use Rattle.layout.proofs.Reading.{bits_lt, bits_on, first_bits, up_to_all, up_to_min}
 use Rattle.layout.proofs.bits.Goals as goal
 use Rattle.layout.proofs.bits.Goals.{After-byte, After-first_bits}
 
@@ -31,38 +31,35 @@ longer : (c : goal.After-byte) →
 longer c =
     let l = c.loop-i in
     let a = c.args in
-    next a.s.now a.at l.i l.v _ l.invariant.0 l.invariant.1.1 c.byte.ensures.0 c.byte.ensures.1
+    next a.s.now a.at l.i l.v _ (omega arith) l.invariant c.byte.ensures.0 c.byte.ensures.1
 
 -- v and the leftover bits
 complete : (c : goal.After-first_bits) →
     let a = c.args in
     (c.loop-i.v * c.two.result + c.first_bits.result
-    ≡ bits_at a.s.now a.at c.up_to-n.result)
+    ≡ bits_at a.s.now a.at c.min-n.result)
 complete c =
     let l = c.loop-i in
     let a = c.args in
-    let n = c.up_to-n.result in
+    let n = c.min-n.result in
     let k = (a.at % 8 + n) % 8 in
     rw c.two.ensures
-    (ap₂ (λ (x y : ℕ). x * 2 ^ k + y) l.invariant.1.1 c.first_bits.ensures
+    (ap₂ (λ (x y : ℕ). x * 2 ^ k + y) l.invariant c.first_bits.ensures
     ∙ bits_on a.s.now a.at (8 * l.i - a.at % 8) k (a.at / 8 + (a.at % 8 + n) / 8) (omega arith)
     ∙ ap (bits_at a.s.now a.at) (omega arith))
 
 pub returns-then-n-le8 : goal.returns-then-n-le8
 returns-then-n-le8 c =
-    let n = c.up_to-n in
+    let n = c.min-n.result in
     let a = c.args in
-    c.wide.ensures.0 ∙ c.code.ensures
-    ∙ ap (bits_at a.s.now a.at) (up_to_all 8 n.result c.if-n-le8.true ∙ n.ensures.0)
-
-pub loop-i-init : goal.loop-i-init
-loop-i-init c = (omega arith, (omega arith, c.rest_of_byte-v.ensures))
+    let h : n ≤ 8 = c.if-n-le8.true in
+    c.from.ensures ∙ c.code.ensures ∙ ap (bits_at a.s.now a.at) (up_to_all 8 n h ∙ c.min-n.ensures ∙ up_to_min 64 a.count)
 
 pub overflow_mul-v : goal.overflow_mul-v
 overflow_mul-v c =
     let l = c.loop-i in
     let a = c.args in
-    omega (arith, room a.s.now a.at (8 * l.i - a.at % 8) 8 l.v l.invariant.1.1 (omega arith))
+    omega (arith, room a.s.now a.at (8 * l.i - a.at % 8) 8 l.v l.invariant (omega arith))
 
 pub overflow_add-v : goal.overflow_add-v
 overflow_add-v c =
@@ -71,15 +68,15 @@ overflow_add-v c =
     omega (arith, room a.s.now a.at (8 * (l.i + 1) - a.at % 8) 0 _ (longer c) (omega arith))
 
 pub loop-i-preserved : goal.loop-i-preserved
-loop-i-preserved c = (omega arith, (omega arith, longer c))
+loop-i-preserved c = longer c
 
 pub overflow_mul-result : goal.overflow_mul-result
 overflow_mul-result c =
     let l = c.loop-i in
     let a = c.args in
-    let n = c.up_to-n.result in
+    let n = c.min-n.result in
     let k = (a.at % 8 + n) % 8 in
-    rw c.two.ensures (omega (arith, room a.s.now a.at (8 * l.i - a.at % 8) k l.v l.invariant.1.1 (omega arith)))
+    rw c.two.ensures (omega (arith, room a.s.now a.at (8 * l.i - a.at % 8) k l.v l.invariant (omega arith)))
 
 pub overflow_add-result : goal.overflow_add-result
 overflow_add-result c =
@@ -89,4 +86,4 @@ overflow_add-result c =
 pub returns : goal.returns
 returns c =
     let a = c.args in
-    complete c ∙ ap (bits_at a.s.now a.at) c.up_to-n.ensures.0
+    complete c ∙ ap (bits_at a.s.now a.at) (c.min-n.ensures ∙ up_to_min 64 a.count)

@@ -12,7 +12,6 @@ use Rattle.layout.specs.Layout.{total, fields_fit, field_fits, storable}
 use Rattle.layout.proofs.Laws.{fits_at, fits_fitting, fitting_length, total_next}
 use Rattle.layout.proofs.fits.Invariants.{Passed}
 use Rattle.layout.proofs.fits.Goals as goal
-use Rattle.layout.proofs.fits.Goals.{After-shared_slice_known-in-loop-i-3-1, At-loop-i}
 
 refuted : (b : Bool) → (b ≡ true → ⊥) → b ≡ false
 refuted true h = absurd (h refl)
@@ -59,47 +58,12 @@ module _ (ws xs : List ℕ) (room : ℕ) where
         let b : size ≡ total ws / 8 = omega (arith, p.bits, p.few) in
         rw f (ap₂ (λ (y z : ℕ). eqb y 0 && leb z room) a b)
 
--- a width that was tested
-width : (c : goal.After-shared_slice_known-in-loop-i-3-1)
-    → get_or c.args.ws.now c.loop-i.i 0 ≤ 8
-width c =
-    let l = c.loop-i in
-    let args = c.args in
-    narrow args.ws.now args.xs.now args.room l.size l.count l.i c.if-ws-xs.false l.invariant
-    _ c.loop-i-test.true c.fits_in.ensures (ap not c.if-not-fits_in.false)
-
 pub returns-then-ws-xs : goal.returns-then-ws-xs
 returns-then-ws-xs c = unequal c.args.ws.now c.args.xs.now _ c.if-ws-xs.true
-
-pub loop-i-init : goal.loop-i-init
-loop-i-init c = record { within = omega arith; same = refl; bits = refl; few = omega arith; near = omega arith }
-
-pub returns-then-not-fits_in : goal.returns-then-not-fits_in
-returns-then-not-fits_in c =
-    let l = c.loop-i in
-    let args = c.args in
-    wrong args.ws.now args.xs.now args.room l.size l.count l.i c.if-ws-xs.false l.invariant
-    _ c.loop-i-test.true c.fits_in.ensures (ap not c.if-not-fits_in.true)
-
-pub overflow_add-count : goal.overflow_add-count
-overflow_add-count c = omega (arith, width c, c.loop-i.invariant.few)
-
-pub overflow_cast-size : goal.overflow_cast-size
-overflow_cast-size c = omega (arith, width c, c.loop-i.invariant.few)
-
-pub overflow_add-size : goal.overflow_add-size
-overflow_add-size c =
-    omega (arith, width c, c.loop-i.invariant.few, c.loop-i.invariant.near)
 
 pub loop-i-preserved : goal.loop-i-preserved
 loop-i-preserved c =
     let l = c.loop-i in
-    let args = c.args in
-    right args.ws.now args.xs.now args.room l.size l.count l.i c.if-ws-xs.false l.invariant
-    _ c.loop-i-test.true c.fits_in.ensures (ap not c.if-not-fits_in.false)
-
-pub returns : goal.returns
-returns c =
-    let l = c.loop-i in
-    let args = c.args in
-    ended args.ws.now args.xs.now args.room l.size l.count l.i c.if-ws-xs.false l.invariant c.loop-i-test.false
+    let a = c.args in
+    rw c.from-size.ensures
+    (right a.ws.now a.xs.now a.room l.size l.count l.i c.if-ws-xs.false l.invariant _ c.loop-i-test.true c.fits_in.ensures (ap not c.if-not-fits_in.false))

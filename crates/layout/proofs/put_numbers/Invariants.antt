@@ -1,5 +1,5 @@
 use mathlib.Core.Path.{◌≡◌}
-use Prim.Native.Nat.{◌+◌, ◌-◌, ◌*◌, ◌≤◌}
+use Prim.Native.Nat.{◌+◌, ◌*◌, ◌≤◌}
 use lib.ListN.{length, drop}
 use lib.Seq.{sets}
 use Rattle.layout.specs.Numbers.{in_fours}
@@ -7,8 +7,5 @@ use Rattle.layout.proofs.put_numbers.Given as goal
 
 abbrev pub invariant-loop-i : goal.invariant-loop-i
 invariant-loop-i l =
-    (l.i ≤ length l.xs) × (length l.out ≡ length l.initial.out) × (l.at + 4 * length l.xs ≤ length l.initial.out)
+    (length l.out ≡ length l.initial.out) × (l.at + 4 * length l.xs ≤ length l.initial.out)
     × (sets l.out (l.at + 4 * l.i) (in_fours (drop l.i l.xs)) ≡ sets l.initial.out l.at (in_fours l.xs))
-
-abbrev pub decreases-loop-i : goal.decreases-loop-i
-decreases-loop-i l = length l.xs - l.i

@@ -1,4 +1,4 @@
-use mathlib.Core.Path.{◌≡◌, refl, sym, ap, ap₂, ◌∙◌}
+use mathlib.Core.Path.{◌≡◌, sym, ap, ap₂, ◌∙◌}
 use mathlib.Core.Bool.{true, false, ◌&&◌}
 use mathlib.Core.List.{List, ◌++◌}
 use Prim.Native.Nat.{ℕ, ◌+◌, ◌*◌, ◌%◌, ◌^◌, ◌≤◌, ◌<◌}
@@ -91,12 +91,6 @@ pub returns-then-not-fits : goal.returns-then-not-fits
 returns-then-not-fits c =
     let a = c.args in
     refused a.ws.now a.xs.now a.out.now (sym c.fits.ensures ∙ c.if-not-fits.true)
-
-pub loop-i-init : goal.loop-i-init
-loop-i-init c = record {
-  within = omega arith;
-  gathered = record { bits = refl; few = omega arith; small = omega arith; spells = refl; low = refl; long = refl; beyond = refl };
-}
 
 pub bounds-xs-i : goal.bounds-xs-i
 bounds-xs-i c =

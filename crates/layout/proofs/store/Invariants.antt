@@ -1,5 +1,5 @@
 use mathlib.Core.List.{List}
-use Prim.Native.Nat.{ℕ, ◌≤◌, ◌-◌}
+use Prim.Native.Nat.{ℕ, ◌≤◌}
 use lib.ListN.{length, take}
 use Rattle.layout.specs.Layout.{total, pack}
 use Rattle.layout.specs.declared.Pending.{Pending}
@@ -12,6 +12,3 @@ pub record Storing (ws xs was out : List ℕ) (p : Pending) (i : ℕ) : Type 0 w
 
 abbrev pub invariant-loop-i : goal.invariant-loop-i
 invariant-loop-i l = Storing l.ws l.xs l.initial.out l.out l.p l.i
-
-abbrev pub decreases-loop-i : goal.decreases-loop-i
-decreases-loop-i l = length l.ws - l.i

@@ -1,43 +1,33 @@
-use mathlib.Core.Path.{◌≡◌}
-use mathlib.Core.List.{List}
+use mathlib.Core.Path.{◌≡◌, refl}
+use mathlib.Core.Bool.{Bool, true, false}
 use Prim.Native.Nat.{ℕ}
-use lib.Dec.{eqb}
-use lib.ListN.{get_or}
-use Rattle.v4x7.specs.declared.Config.{Config}
-use Rattle.v4x7.specs.declared.Hse.{Hse}
-use Rattle.v4x7.specs.declared.Pll.{Pll}
-use Rattle.v4x7.specs.declared.HsPll.{HsPll}
-use Rattle.v4x7.specs.declared.AdcClockSource.{AdcClockSource}
-use Rattle.profile.specs.Profile.{frequency_in, hse_of, pll_of, hspll_of, adc_of, config_of}
+use Rattle.std.specs.Bool.{then_some}
+use Rattle.tree.specs.declared.Hse.{Hse}
+use Rattle.profile.specs.Profile.{hse_of, pll_of, hspll_of, config_of}
 use Rattle.profile.proofs.config_of.Goals as goal
 
--- the configuration with these parts
-abbrev with : List ℕ → Hse → Pll → HsPll → AdcClockSource → Config
-with l h p u a = record {
-  hse = h;
-  sys = get_or l 6 0;
-  pll_src = get_or l 7 0;
-  pll = p;
-  syspll_src = get_or l 10 0;
-  syspll_pre = get_or l 11 0;
-  hspll = u;
-  ethpll = eqb (get_or l 14 0) 1;
-  ahb_pre = get_or l 15 0;
-  apb1_pre = get_or l 16 0;
-  apb2_pre = get_or l 17 0;
-  rng_src = get_or l 18 0;
-  adc_src = a;
-  adc_pre = get_or l 21 0;
-  adc_duty = get_or l 22 0;
-}
+some_hse : (b y : Bool) (f : ℕ) → then_some {T = Hse} b (record { bypass = y; freq = f }) ≡ hse_of b y f
+some_hse true y f = refl
+some_hse false y f = refl
 
-made : (l : List ℕ) (hz : ℕ) (h : Hse) (p : Pll) (u : HsPll) (a : AdcClockSource) → hz ≡ frequency_in l
-    → h ≡ hse_of (eqb (get_or l 0 0) 1) (eqb (get_or l 1 0) 1) hz → p ≡ pll_of (eqb (get_or l 8 0) 1) (get_or l 9 0)
-    → u ≡ hspll_of (eqb (get_or l 12 0) 1) (get_or l 13 0) → a ≡ adc_of (eqb (get_or l 19 0) 1) (get_or l 20 0) → with l h p u a ≡ config_of l
-unfolding config_of
-made l hz h p u a e f g i j = rw (f, e, g, i, j)
+some_pll : (b : Bool) (m : ℕ) → then_some b m ≡ pll_of b m
+some_pll true m = refl
+some_pll false m = refl
+
+some_hspll : (b : Bool) (m : ℕ) → then_some b m ≡ hspll_of b m
+some_hspll true m = refl
+some_hspll false m = refl
 
 pub returns : goal.returns
+unfolding config_of
 returns c =
-    made _ _ _ _ _ _ c.number-hz.ensures
-    c.hse_of.ensures c.pll_of.ensures c.hspll_of.ensures c.adc_of.ensures
+    rw (
+      c.then_some.ensures,
+      some_hse,
+      c.number-hz.ensures,
+      c.then_some-2.ensures,
+      some_pll,
+      c.then_some-3.ensures,
+      some_hspll,
+      c.adc_of.ensures,
+    )

@@ -4,7 +4,8 @@ use mathlib.Core.List.{List}
 use Prim.Native.Nat.{ℕ, ◌≤◌}
 use lib.ListN.{length}
 use Rattle.answer.specs.Answer.{gives, refuses}
-use Rattle.answer.specs.declared.Outcome.TheVariants.{Done, Refused}
+use Rattle.std.specs.Prelude.{Ok, Err}
+use Rattle.answer.specs.declared.Refusal.TheVariants.{ProfileCode}
 use Rattle.layout.specs.Layout.{fitting, packed}
 use Rattle.layout.specs.Lent.{Wrote}
 use Rattle.layout.specs.Stored.{Stored}
@@ -24,22 +25,22 @@ module _ (c : Config) (l xs : List ℕ) (h : 10 ≤ length l) (e : xs ≡ fields
   unfolding profile_bytes
   not_writable w = rw w
 
-  not_allowed : allowed xs ≡ false → Wrote 10 (profile_bytes c) l l (Refused 30)
-  not_allowed t = writing.refused 10 (profile_bytes c) l 30 h (not_writable (by_fields ∙ rw t))
+  not_allowed : allowed xs ≡ false → Wrote 10 (profile_bytes c) l l (Err ProfileCode)
+  not_allowed t = writing.refused 10 (profile_bytes c) l ProfileCode h (not_writable (by_fields ∙ rw t))
 
   module _ (t : allowed xs ≡ true) (l' : List ℕ) (r : Bool) (s : Stored widths xs l l' r) where
     -- what was stored fits
     stored : r ≡ writable c
     stored = writing.stored widths xs l l' r refl h s ∙ fits_narrow widths xs refl ∙ sym (by_fields ∙ rw t)
 
-    accepted : r ≡ true → Wrote 10 (profile_bytes c) l l' Done
+    accepted : r ≡ true → Wrote 10 (profile_bytes c) l l' (Ok tt)
     unfolding profile_bytes
     accepted y =
         let w : writable c ≡ true = sym stored ∙ y in
         writing.placed widths xs l l' r refl h s (profile_bytes c) y (rw w (ap (λ (q : List ℕ). gives (packed 10 widths q)) (sym e)))
 
-    too_wide : r ≡ false → Wrote 10 (profile_bytes c) l l' (Refused 30)
-    too_wide y = writing.unplaced widths xs l l' r refl h s (profile_bytes c) 30 y (not_writable (sym stored ∙ y))
+    too_wide : r ≡ false → Wrote 10 (profile_bytes c) l l' (Err ProfileCode)
+    too_wide y = writing.unplaced widths xs l l' r refl h s (profile_bytes c) ProfileCode y (not_writable (sym stored ∙ y))
 
 pub returns-then-out-lt-SIZE : goal.returns-then-out-lt-SIZE
 returns-then-out-lt-SIZE c = let a = c.args in writing.short 10 (profile_bytes a.config) a.out.now c.if-out-lt-SIZE.true

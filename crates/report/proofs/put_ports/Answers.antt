@@ -1,28 +1,23 @@
-use Prim.Native.Nat.{◌+◌, ◌≤◌}
+use mathlib.Core.Path.{◌∙◌}
 use native.Mathlib.Omega.{arith}
-use lib.ListN.{length}
 use Rattle.report.proofs.Ports.{begun, lined, ended}
 use Rattle.report.proofs.put_ports.Goals as goal
-use Rattle.report.proofs.put_ports.Goals.{In-loop-at}
 
--- five bytes are left
-five-left : (c : goal.In-loop-at) → c.loop-at.at + 5 ≤ length c.args.ports.now
-five-left c = omega (arith, c.loop-at-test.true, c.loop-at.invariant.within)
+pub loop-port-init : goal.loop-port-init
+loop-port-init c =
+    let items = c.chunks_exact-port-items.ensures in
+    rw c.into_iter-port-iterator.ensures.into_iter_gives (items.size, rw items.rest (begun _ _ _ _))
 
-pub loop-at-init : goal.loop-at-init
-loop-at-init c = begun _ _ _ _
-
-pub overflow_sub-ports : goal.overflow_sub-ports
-overflow_sub-ports c = c.loop-at.invariant.within
-
-pub loop-at-preserved : goal.loop-at-preserved
-loop-at-preserved c =
-    let args = c.args in
-    lined args.clocks args.ports.now c.loop-at.at (five-left (goal.at.loop-at-preserved c).In-loop-at) c.loop-at.invariant
-    (rw (c.port_divisor-port.ensures, c.number-rate.ensures) at c.put_port-next.ensures.joined)
-    (rw (c.port_divisor-port.ensures, c.number-rate.ensures) at c.put_port-next.ensures.port_len_bound)
+pub loop-port-preserved : goal.loop-port-preserved
+loop-port-preserved c =
+    let size = c.loop-port.invariant.0 in
+    let steps = c.in-Some.ensures.steps in
+    let put = rw (c.port_divisor-divisor.ensures, c.number-rate.ensures) at c.put_port-next.ensures in
+    (steps.0 ∙ size, lined c.in-Some.port.now c.loop-port.invariant.1 steps.1.0 (steps.1.1 ∙ size) put.joined put.port_len_bound)
 
 pub returns : goal.returns
 returns c =
-    let both = ended c.loop-at.invariant c.loop-at-test.false in
+    let size = c.loop-port.invariant.0 in
+    let short = c.in-None.ensures.steps.1.0 in
+    let both = ended c.loop-port.invariant.1 (omega arith) in
     record { joined = both.0; ports_bound = both.1 }

@@ -1,5 +1,0 @@
-use mathlib.Core.Path.{sym}
-use Rattle.capi_v1.proofs.wontabeli_v1_init_fields.Goals as goal
-
-pub returns : goal.returns
-returns c = rw (sym c.init_fields.ensures) c.give_fields.ensures

@@ -1,9 +1,0 @@
-use native.Mathlib.Omega.{arith}
-use borrow.Author.Tests.{lt-ltb, le-ltb}
-use Rattle.layout.proofs.up_to.Goals as goal
-
-pub returns-then-n-limit : goal.returns-then-n-limit
-returns-then-n-limit c = (simp (lt-ltb _ _ c.if-n-limit.true), omega arith)
-
-pub returns-else-n-limit : goal.returns-else-n-limit
-returns-else-n-limit c = (simp (le-ltb _ _ c.if-n-limit.false), omega arith)

@@ -1,8 +1,0 @@
-use borrow.Author.Rules.{rules}
-use Rattle.pll32.proofs.usb.Goals as goal
-
-pub returns-in-Absent : goal.returns-in-Absent
-returns-in-Absent c = search rules
-
-pub returns-in-At : goal.returns-in-At
-returns-in-At c = rw (c.usb_divisor.ensures, c.in-At.is)

@@ -1,4 +1,0 @@
-use Rattle.profile.proofs.hspll_of.Goals as goal
-
-pub returns-then-present : goal.returns-then-present
-returns-then-present c = rw c.if-present.true

@@ -1,7 +1,0 @@
-use mathlib.Core.Path.{sym}
-use Rattle.v1.specs.V1.{setting_in}
-use Rattle.v1.proofs.setting_in.Goals as goal
-
-pub returns : goal.returns
-unfolding setting_in
-returns c = simp (sym c.source_of-source.ensures, sym c.prediv_code_in-prediv.ensures)
