@@ -13,7 +13,8 @@ use v4x7::ClockRecord;
 // The bytes of a board's record.
 pub const RECORD: usize = 32;
 
-// The numbers of a board's record: the refusal number or 0, then the seven frequencies in the program's order; zeros after a refusal.
+// The numbers of a board's record: the refusal number or 0, then the seven frequencies in the program's order; zeros after a refusal. The six clocks
+// stand in `capi_give` in this order too, in arrays of other lengths, which no copy of one into another joins.
 fn numbers(checked: Result<ClockRecord, Refusal>) -> [u32; 8]
     ensures { result ≡ numbers_of (says checked) }
 {
@@ -33,7 +34,7 @@ fn numbers(checked: Result<ClockRecord, Refusal>) -> [u32; 8]
     ]
 }
 
-// Writes the eight numbers of a record.
+// Writes the eight numbers of a record, at its place, as `put_numbers` takes it (`with_numbers`).
 #[tactic(auto, using(layout::proofs::Filling::numbers_put))]
 fn put_record(out: &mut [u8], at: usize, xs: [u32; 8])
     requires { at + 32 ≤ length out.old }
@@ -65,6 +66,7 @@ pub fn tray(profiles: &[u8], out: &mut [u8]) -> Result<(), Refusal>
     if profiles.len() % profile::SIZE != 0 {
         return Err(Refusal::ProfileLength);
     }
+    // A record's place is counted: `put_numbers` takes it in the whole of out.
     for (i, profile) in profiles.chunks_exact(profile::SIZE).enumerate() {
         put_record(out, i * RECORD, numbers(profile::check_profile(profile)));
     }

@@ -14,6 +14,8 @@ use answer::Refusal;
 use startup::FlashKey;
 use tree::Clocks;
 
+// The registers are numbers, since C hosts read them.
+
 // The register of the first two keys, KEYR.
 pub const KEYR: u32 = 0;
 // The register of the other two, MODEKEYR.
@@ -60,6 +62,7 @@ fn pair(query: Result<Option<u32>, Refusal>) -> Result<(u32, u32), Refusal>
     }
 }
 
+// This and `rng`, and `waits` and `calls`, differ in the function called: one for each two would take it as a closure, and be no shorter.
 fn adc(from: &[u8], sysclk: u32) -> Result<Option<u32>, Refusal>
     ensures { says result ≡ adc_read from.now sysclk }
 {

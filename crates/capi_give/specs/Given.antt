@@ -1,6 +1,6 @@
 -- What a call that C and Rust make gives: the number that it returns, and all that was lent. And HSE as it takes it.
 -- Assumes nothing.
-use Rattle.std.specs.Prelude.{ℕ, ◌≡◌, cond, Option, None, Some, Result, Ok, Err, List, [], ◌∷◌, ◌++◌, length, drop, eqb, ltb}
+use Rattle.std.specs.Prelude.{ℕ, ◌≡◌, cond, Option, None, Some, List, [], ◌∷◌, ◌++◌, length, drop, eqb, ltb}
 use Rattle.std.proofs.Common.{sym, ◌∙◌}
 use Rattle.answer.specs.Answer.{Answer, gives, refuses, refuse, ◌>>=◌, ◌>>◌}
 use Rattle.tree.specs.declared.Clocks.{Clocks}
@@ -13,11 +13,6 @@ decoder_hse hz = cond (eqb hz 0) None (Some hz)
 abbrev pub number_in : {A : Type 0} → Answer A → ℕ
 number_in (gives a) = 0
 number_in (refuses n) = n
-
--- an answer, by the number of what refuses it
-abbrev pub says_by : {A E : Type 0} → (E → ℕ) → Result A E → Answer A
-says_by number (Ok x) = gives x
-says_by number (Err e) = refuses (number e)
 
 -- What the lent items l, bytes or words, are to hold after n of them are given, or why none is: 32 first, then what refuses the record itself. What
 -- is beyond the record stays. At bytes it is what a writer writes (layout's `written`).

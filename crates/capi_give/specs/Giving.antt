@@ -2,10 +2,10 @@
 use Rattle.std.specs.Prelude.{ℕ, ◌≤◌, ◌<◌, ◌≡◌, refl, Result, Ok, Err, List, ◌++◌, length, drop}
 use Rattle.std.proofs.Common.{◌∙◌, sym, ap, lt-ltb, le-ltb}
 use Rattle.answer.specs.Answer.{Answer, gives, refuses, ◌>>◌}
-use Rattle.answer.specs.Said.{says, number_of}
+use Rattle.answer.specs.Said.{says, says_by, number_of}
 use Rattle.answer.specs.declared.Refusal.{Refusal}
 use Rattle.layout.specs.Lent.{written, Wrote}
-use Rattle.capi_give.specs.Given.{Given, number_in, says_by}
+use Rattle.capi_give.specs.Given.{Given, number_in}
 
 -- what is given is no part of the number
 number_alone : {A : Type 0} (m : Answer A) → number_in m ≡ number_in (◌>>◌ {B = Unit {0}} m (gives tt))

@@ -4,10 +4,10 @@
 
 ghost use Rattle.std.specs.Prelude.{◌≡◌, ℕ, length};
 ghost use Rattle.answer.specs.Answer.{gives};
-ghost use Rattle.answer.specs.Said.{number_of as refusal_number_of};
-ghost use Rattle.capi_give.specs.Given.{decoder_hse, Given, GivenOne, says_by, pair_of, two_words, six_of, six_words, seven_of, seven_words};
+ghost use Rattle.answer.specs.Said.{says_by};
+ghost use Rattle.capi_give.specs.Given.{decoder_hse, Given, GivenOne, pair_of, two_words, six_of, six_words, seven_of, seven_words};
 
-use answer::Refusal;
+use answer::{Numbered, Refusal};
 use tree::Clocks;
 
 // The six clocks, in words.
@@ -16,30 +16,6 @@ pub const CLOCKS_WORDS: usize = 6;
 pub const CHECK_WORDS: usize = 7;
 // Two numbers, in words.
 pub const PAIR_WORDS: usize = 2;
-
-// What refuses an answer, by its number: a refusal, or whatever number a caller has for one.
-pub trait Numbered: Copy {
-    ghost number_of: { Self → ℕ };
-
-    fn number(self) -> u8
-        ensures { result ≡ number_of self };
-}
-
-impl Numbered for Refusal {
-    ghost number_of = { refusal_number_of };
-
-    fn number(self) -> u8 {
-        Refusal::number(self)
-    }
-}
-
-impl Numbered for u8 {
-    ghost number_of = { λ n. n };
-
-    fn number(self) -> u8 {
-        self
-    }
-}
 
 // HSE as it is handed to a decoder: a frequency of 0 says that there is none.
 pub fn decoder_hse(hz: u32) -> Option<u32>
@@ -75,7 +51,7 @@ pub fn give_record<T: Copy, E: Numbered, const N: usize>(
     }
 }
 
-// The six clocks as words, in the program's order.
+// The six clocks as words, in the program's order. `boards` has this order too, and says why.
 fn six(k: Clocks) -> [u32; CLOCKS_WORDS]
     ensures { result ≡ six_of k }
 {

@@ -2,12 +2,10 @@
 #![tactic(auto)]
 
 ghost use Rattle.std.specs.Prelude.{◌≡◌, length, eqb};
-ghost use Rattle.answer.specs.Said.{says};
-ghost use Rattle.capi_give.specs.Given.{says_by};
+ghost use Rattle.answer.specs.Said.{says, says_by};
 ghost use Rattle.capi_pll32.specs.Bytes.{record_in, hse_hz_in, config_hse, hse_allowed, seven_of};
 
-use answer::Refusal;
-use capi_give::Numbered;
+use answer::{Numbered, Refusal};
 use pll32::ClockRecord;
 use tree::{Clocks, Hse};
 
@@ -32,7 +30,7 @@ pub fn config_hse(present: bool, bypass: bool, freq: u32) -> Option<Hse>
     present.then_some(Hse { bypass, freq })
 }
 
-// Whether a configuration may have these bytes for HSE.
+// Whether a configuration may have these bytes for HSE: the record's, before an option is made of them.
 pub fn hse_allowed(present: u8, bypass: u8, freq: u32) -> bool
     ensures { result ≡ hse_allowed present bypass freq }
 {

@@ -12,7 +12,7 @@ use Rattle.layout.proofs.Filling.{sets_append, numbers_put}
 use Rattle.startup.specs.declared.Report.{Report}
 use Rattle.startup.specs.declared.Startup.{Startup}
 use Rattle.ticks.specs.declared.Ticks as declared
-use Rattle.ticks.specs.Ticks.{meets_wait, after_of}
+use Rattle.ticks.specs.Ticks.{eight_of, longest_of, meets_wait, after_of}
 use Rattle.capi_startup.specs.Kept.{ticks_in, counts_bytes, ticks_bytes, noted_bytes}
 
 -- a part of which each byte is stored
@@ -54,6 +54,13 @@ pub numbers_whole : (l ns : List ℕ) → length l ≡ length (in_fours ns) → 
 numbers_whole l ns e =
     let h : 0 + 4 * length ns ≤ length l = omega (arith, fours ns) in
     numbers_put l ns 0 h ∙ all_set l (in_fours ns) e
+
+pub ticks_laid : (t : declared.Ticks) (longest : ℕ) (l m : List ℕ) → length l ≡ 40 → longest ≡ longest_of t.waits →
+    m ≡ with_numbers l 0 (t.first ∷ (eight_of t.waits ++ (longest ∷ []))) → m ≡ ticks_bytes t
+unfolding ticks_bytes
+ticks_laid t longest l m e q p =
+    p ∙ numbers_whole l (t.first ∷ (eight_of t.waits ++ (longest ∷ []))) e
+    ∙ ap (λ (n : ℕ). in_fours (t.first ∷ (eight_of t.waits ++ (n ∷ [])))) q
 
 pub noted_length : (b : List ℕ) (unmet tick : ℕ) (report : Report) → length b ≡ 40 → length (noted_bytes b unmet tick report) ≡ 40
 unfolding noted_bytes

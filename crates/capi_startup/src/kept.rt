@@ -14,7 +14,8 @@ use startup::{Report, Startup, named_step, number};
 use ticks::{Ticks, Waits};
 use v4x7::Config;
 
-// The numbers of the refusals that a startup can be over by.
+// The numbers of the refusals that a startup can be over by, as constants, which a pattern takes: a place's byte is a
+// number, since C hosts keep it.
 const WAIT_FAILED: u8 = Refusal::WaitFailed as u8;
 
 const FLASH_MODE_DIFFERS: u8 = Refusal::FlashModeDiffers as u8;
@@ -70,7 +71,7 @@ fn report_tag(report: Report) -> u8
     }
 }
 
-// The number that four bytes of a place spell.
+// The number that four bytes of a place spell, by where they stand in it (`number_at`).
 fn number_at(place: &[u8], at: usize) -> u32
     requires { at + 4 ≤ length place.now }
     ensures { result ≡ number_at place.now at }
@@ -105,7 +106,7 @@ pub fn kept(place: &[u8]) -> Result<Startup, Refusal>
     Ok(standing(config, fields, place))
 }
 
-// The ticks of a place: its last 40 bytes.
+// The ticks of a place: its last 40 bytes. They are a slice of the lent place here and in the two below; an array would come by a `try_from` whose error never comes.
 fn ticks_in(part: &[u8]) -> Ticks
     requires { length part.now ≡ 40 }
     ensures { result ≡ ticks_in part.now }

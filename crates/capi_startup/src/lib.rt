@@ -70,6 +70,7 @@ pub const SWS: u16 = 32;
 // SCKMOD, two bits: its value times this.
 pub const SCKMOD: u16 = 128;
 
+// Two bits fit a byte, as is proved; `try_from` would have an error that never comes.
 fn reading(w: u16) -> Reading
     ensures { result ≡ reading_of w }
 {

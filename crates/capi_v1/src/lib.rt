@@ -1,4 +1,5 @@
 // CH32V1 and CH32L1 for C: the check, the decoder, and the fields that starting a configuration leaves.
+// What looks alike in capi_v30x goes by its own record and its own types; what is common is in capi_pll32.
 #![tactic(auto, unfolding(crate::specs::Calls::check_read, crate::specs::Calls::decode_read, crate::specs::Calls::init_read))]
 
 ghost use Rattle.std.specs.Prelude.{◌≡◌, leb};
@@ -23,6 +24,7 @@ pub const V1_CONFIG_SIZE: usize = 14;
 // Bytes of register fields of CH32V1 or CH32L1.
 pub const V1_FIELDS_SIZE: usize = 8;
 
+// `v1` knows no numbers of C hosts, so no `TryFrom` stands there.
 fn chip(part: u8) -> Result<Chip, Refusal>
     ensures { says result ≡ record_in (leb part 1) (chip_of part) }
 {
@@ -70,7 +72,7 @@ fn is_config(b: &[u8; V1_CONFIG_SIZE]) -> bool
 }
 
 // A configuration's record, or 28.
-// Not one generic function with `read_fields`: the types are v1's, so a trait for both would need a wrapper for each, which is no plainer.
+// Not one generic function with `read_fields`: it would take the test and the reader as closures, each with its clause, and be no shorter.
 fn read_config(bytes: &[u8]) -> Result<Config, Refusal>
     ensures { says result ≡ record_in (is_config bytes.now) (config_of bytes.now) }
 {

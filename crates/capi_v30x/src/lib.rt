@@ -1,4 +1,5 @@
 // CH32V30x for C: the check, the decoder, and the fields that starting a configuration leaves.
+// What looks alike in capi_v1 goes by its own record and its own types; what is common is in capi_pll32.
 #![tactic(auto, unfolding(crate::specs::Calls::check_read, crate::specs::Calls::decode_read, crate::specs::Calls::init_read))]
 
 ghost use Rattle.std.specs.Prelude.{◌≡◌};
@@ -17,6 +18,7 @@ pub const V30X_CONFIG_SIZE: usize = 18;
 // Bytes of register fields of CH32V30x.
 pub const V30X_FIELDS_SIZE: usize = 9;
 
+// A byte of a C host, which is 2 at most (`pll_allowed`); `v30x` knows no such bytes, so no `From` stands there.
 fn pll_source(b: u8) -> PllSource
     ensures { result ≡ config_pll_source b }
 {
@@ -78,7 +80,7 @@ fn is_config(b: &[u8; V30X_CONFIG_SIZE]) -> bool
 }
 
 // A configuration's record, or 28.
-// Not one generic function with `read_fields`: the types are v30x's, so a trait for both would need a wrapper for each, which is no plainer.
+// Not one generic function with `read_fields`: it would take the test and the reader as closures, each with its clause, and be no shorter.
 fn read_config(bytes: &[u8]) -> Result<Config, Refusal>
     ensures { says result ≡ record_in (is_config bytes.now) (config_of bytes.now) }
 {

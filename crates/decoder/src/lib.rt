@@ -33,7 +33,7 @@ fn usbhs_pll(source: u8, code: u8, hse: Option<u32>) -> Result<(), Refusal>
 {
     let reference = usbhs_reference(source, hse)?;
     let right = v4x7_rules::reference_code(reference.hz)?;
-    if right != u32::from(code) {
+    if right != code {
         return Err(Refusal::UsbhsCodeDiffers);
     }
     Ok(())

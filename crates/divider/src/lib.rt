@@ -30,7 +30,7 @@ pub fn hertz(hz: u32) -> Frequency
     Frequency { hz }
 }
 
-// A row for each family and a column for each code. The rows are equal, and each family keeps its own.
+// A row for each family and a column for each code (document 01). The rows are equal, and each family keeps its own: a change of one is that family's alone.
 const AHB_SHIFTS: [[u8; 16]; 4] = [
     [0, 0, 0, 0, 0, 0, 0, 0, 1, 2, 3, 4, 6, 7, 8, 9], // V4x7
     [0, 0, 0, 0, 0, 0, 0, 0, 1, 2, 3, 4, 6, 7, 8, 9], // V1
@@ -44,6 +44,7 @@ fn ahb_shift(family: Family, code: usize) -> u8
     requires { code < 16 }
     ensures { ShiftFor (ahb_divisor family code) result }
 {
+    // The row by the family's discriminant.
     AHB_SHIFTS[family as usize][code]
 }
 

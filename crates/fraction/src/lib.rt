@@ -4,7 +4,7 @@
 ghost use Rattle.std.specs.Prelude.{◌≡◌};
 ghost use Rattle.fraction.specs.Fraction.{gcd_of, lowest_of};
 
-// A source over a divisor. 0 over 0 says that there is none.
+// A source over a divisor. 0 over 0 says that there is none (`lowest_of`).
 #[derive(Clone, Copy, Debug, PartialEq, Eq)]
 pub struct Fraction {
     pub source: u32,

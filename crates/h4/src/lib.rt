@@ -10,9 +10,9 @@ ghost use Rattle.h4.specs.H4.{pclk_of, doubled_of, prescaled_of};
 
 use answer::Refusal;
 use divider::{Family, Frequency};
-use tree::{Clocks, Prescalers};
+use tree::Clocks;
 
-// The codes of one configuration's prescalers.
+// The codes of one configuration's prescalers: numbers, since one too wide is refused by 28 (`prescaled_of`).
 #[derive(Clone, Copy, Debug, PartialEq, Eq)]
 pub struct Prescale {
     pub hpre: u8,
@@ -65,11 +65,6 @@ pub fn clocks_from_sysclk(sysclk: Frequency, prescale: Prescale) -> Result<(u32,
 {
     let ahb = ahb_from_sysclk(sysclk, prescale.hpre)?;
     let hclk = hclk_from_ahb(ahb, prescale.fpre);
-    let codes = Prescalers {
-        ahb: prescale.hpre,
-        apb1: prescale.ppre1,
-        apb2: prescale.ppre2,
-    };
-    let clocks = tree::below_hclk(Family::H4, sysclk, hclk, codes)?;
+    let clocks = tree::below_hclk(Family::H4, sysclk, hclk, prescale.ppre1, prescale.ppre2)?;
     Ok((ahb.hz, clocks))
 }

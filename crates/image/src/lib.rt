@@ -120,7 +120,7 @@ pub const WIDTHS: [u8; 34] = [
     5, // filling
 ];
 
-// The field k of an image, by its place in the list of widths.
+// The field k of an image, by its place in the list of widths. `profile` has the same of its own list: it is here for its clause, `cut` of this list.
 fn field(s: &[u8], k: usize) -> u8
     ensures { result ≡ get_or (cut widths s.now 0) k 0 }
 {
@@ -248,7 +248,8 @@ pub fn in_width(f: Fields) -> bool
         & (f.flash.sckmod < 4)
 }
 
-// Each register's fields as one number, in the image's order. Each weight is what its field's width leaves behind it.
+// Each register's fields as one number, in the image's order. Each weight is what its field's width leaves behind it. Written by the list of widths, as a profile is, an
+// image took some 870 instructions more (docs/DECISIONS.md).
 fn ctlr_number(c: Ctlr) -> u32
     ensures { (result ≡ ctlr_number c) × (result < 128) }
 {

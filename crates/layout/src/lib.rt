@@ -11,7 +11,8 @@ ghost use Rattle.layout.specs.Gathered.{Fits, Gathers};
 ghost use Rattle.layout.specs.Numbers.{with_numbers};
 ghost use Rattle.layout.specs.Stored.{Stored};
 
-// The bits of a record that don't make a byte yet: `count` of them spell `value`, and go to the byte `at`.
+// The bits of a record that don't make a byte yet: `count` of them spell `value`, and go to the byte `at`. Never compared or printed, so it
+// derives Clone and Copy alone.
 #[derive(Clone, Copy)]
 struct Pending {
     at: usize,
@@ -19,7 +20,7 @@ struct Pending {
     value: u64,
 }
 
-// A power of two.
+// A power of two, here for its bound: the exponent is small.
 fn two(k: u8) -> u64
     requires { k ≤ 16 }
     ensures { result ≡ 2 ^ k }
@@ -136,6 +137,7 @@ pub fn put_numbers(out: &mut [u8], at: usize, xs: &[u32])
     if no_room(out.len(), at, xs.len()) {
         return;
     }
+    // By place, as the head says.
     for (i, x) in xs.iter().enumerate() {
         put_number(out, at + 4 * i, *x);
     }
@@ -150,6 +152,7 @@ pub fn field(ws: &[u8], s: &[u8], k: usize) -> u8
         return 0;
     }
     let mut at = 0;
+    // A loop, whose invariant bounds the place; a `sum` would want the bound of the whole list first.
     for w in &ws[..k] {
         at += usize::from(*w).min(8);
     }
@@ -162,6 +165,7 @@ pub fn load(ws: &[u8], s: &[u8], out: &mut [u8])
     ensures { out.new ≡ loaded ws.now s.now out.old }
 {
     let n = ws.len().min(out.len()).min(256);
+    // By place: it ends by three lengths, which a zip would say less plainly.
     let mut at = 0;
     for i in 0..n {
         let w = usize::from(ws[i]);
@@ -232,6 +236,7 @@ pub fn store(ws: &[u8], xs: &[u8], out: &mut [u8]) -> bool
         count: 0,
         value: 0,
     };
+    // By place, as in `fits`.
     for (i, w) in ws.iter().enumerate() {
         p = gather(out, p, *w, xs[i]);
     }

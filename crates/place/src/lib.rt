@@ -13,6 +13,7 @@ use ticks::Ticked;
 use v4x7::Config;
 
 // Does a call with this report leave the place as it was? 23 and 28 do; a call that ends with 21 or 22 leaves the ended startup.
+// A match: a report that came new would have to be thought of here.
 pub fn leaves_as_it_was(report: Report) -> bool
     ensures { result ≡ leaves_as_it_was report }
 {

@@ -40,7 +40,7 @@ pub struct Codes {
     pub prescalers: Prescalers,
 }
 
-// The clock record of an accepted configuration: the six clocks and, apart, the USB divisor of the PLL's output, doubled (1.5 is 3), 0 for none.
+// The clock record of an accepted configuration: the six clocks and, apart, the USB divisor of the PLL's output, doubled (1.5 is 3), 0 for none, as `usb_of` gives it.
 #[derive(Clone, Copy, Debug, PartialEq, Eq)]
 pub struct ClockRecord {
     pub clocks: Clocks,
@@ -61,6 +61,7 @@ fn factor_of(part: Part, code: usize) -> u8
     requires { code < 16 }
     ensures { result ≡ factor part code }
 {
+    // By the part's discriminant.
     let row = FACTORS[part as usize];
     row[code]
 }
@@ -140,7 +141,7 @@ fn multiplied(part: Part, input: Frequency, mul: u8) -> Result<Frequency, Refusa
     Ok(fits)
 }
 
-// What a PLL makes of its source.
+// What a PLL makes of its source. Part and HSE go beside each other here and below: nothing in the documents joins the two.
 pub fn pll_output(part: Part, hse: Option<u32>, setting: Setting) -> Result<Frequency, Refusal>
     ensures { says result ≡ pll_output_of part hse setting }
 {

@@ -28,7 +28,7 @@ fn shown(f: Fields) -> Reading {
     }
 }
 
-// The same, except that what this step asks for is not so.
+// The same, except that what this step asks for is not so. A match: a line for each wait of document 01, and 21.
 fn contrary(f: Fields, step: u8) -> Reading {
     let mut r = shown(f);
     let other_mode = 3 - f.flash.sckmod % 4;
@@ -46,6 +46,7 @@ fn contrary(f: Fields, step: u8) -> Reading {
     r
 }
 
+// No step fails at 0, as the case's byte has it.
 fn reading(s: Startup, failing: u8) -> Reading {
     if s.step == failing {
         contrary(s.fields, failing)
@@ -67,58 +68,35 @@ fn run(begun: Startup, failing: u8) -> Startup {
 }
 
 // A write that fails changes nothing else: the next one is tried all the same.
-fn print(rt: &impl Print, text: &[u8]) {
-    let _ = rt.write_all(text);
-}
-
-fn print_decimal(rt: &impl Print, n: u32) {
-    let _ = print!(rt; "{n}");
-}
-
-fn print_ending(rt: &impl Print, step: u8, used: u32) {
-    print(rt, b" step ");
-    print_decimal(rt, u32::from(step));
-    print(rt, b" readings ");
-    print_decimal(rt, used);
-}
-
 fn print_report(rt: &impl Print, report: Report) {
-    match report {
-        Report::Running { step, used } => {
-            print(rt, b"running");
-            print_ending(rt, step, used);
-        }
+    let _ = match report {
+        Report::Running { step, used } => print!(rt; "running step {step} readings {used}"),
         Report::Failed { number, step, used } => {
-            print(rt, b"refused ");
-            print_decimal(rt, u32::from(number));
-            print_ending(rt, step, used);
+            print!(rt; "refused {number} step {step} readings {used}")
         }
-        Report::Refused(number) => {
-            print(rt, b"refused ");
-            print_decimal(rt, u32::from(number));
-        }
+        Report::Refused(number) => print!(rt; "refused {number}"),
         Report::Worked { step, used } | Report::Waiting { step, used } => {
-            print(rt, b"not over");
-            print_ending(rt, step, used);
+            print!(rt; "not over step {step} readings {used}")
         }
-    }
+    };
 }
 
 fn print_image(rt: &impl Print, f: Fields) {
     let mut bytes = [0u8; 8];
     let _ = image::write_image(f, &mut bytes);
     let image = u64::from_be_bytes(bytes);
-    print(rt, b" image ");
-    let _ = print!(rt; "{image:016x}");
+    let _ = println!(rt; " image {image:016x}");
+}
+
+fn print_refused(rt: &impl Print, what: &str, refusal: Refusal) {
+    let number = refusal.number();
+    let _ = println!(rt; "not {what} {number}");
 }
 
 // One startup, and its line.
 fn powered(rt: &impl Print, config: v4x7::Config, failing: u8) {
     match started(config) {
-        Err(refusal) => {
-            print(rt, b"not started ");
-            print_decimal(rt, u32::from(refusal.number()));
-        }
+        Err(refusal) => print_refused(rt, "started", refusal),
         Ok(begun) => {
             let end = run(begun, failing);
             // A call after the end changes nothing and repeats the answer.
@@ -127,7 +105,6 @@ fn powered(rt: &impl Print, config: v4x7::Config, failing: u8) {
             print_image(rt, again.startup.fields);
         }
     }
-    print(rt, b"\n");
 }
 
 // One case; false where the input ends. A read that fails counts as the end.
@@ -138,16 +115,13 @@ fn case<R: Read>(rt: &impl Print, reader: &mut R) -> bool {
         return false;
     }
     match profile::read_profile(&bytes) {
-        Err(refusal) => {
-            print(rt, b"not read ");
-            print_decimal(rt, u32::from(refusal.number()));
-            print(rt, b"\n");
-        }
+        Err(refusal) => print_refused(rt, "read", refusal),
         Ok(config) => powered(rt, config, failing[0]),
     }
     true
 }
 
+// A proved loop has to end: no list of cases is longer.
 fn main(rt: HostRuntime) {
     let mut reader = rt.reader();
     for _ in 0..1_000_000 {

@@ -118,6 +118,7 @@ pub fn read_image(mut q: Query<'_>) -> Result<Reply, Refusal> {
     Ok(a)
 }
 
+// As a profile is written; one function for both would take the writer as a closure, and be no shorter.
 pub fn write_image(mut q: Query<'_>) -> Reply {
     let fields = q.fields();
     let n = usize::from(q.byte()).min(LONGEST);

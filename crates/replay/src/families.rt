@@ -2,13 +2,9 @@
 use crate::query::Query;
 use crate::reply::Reply;
 use answer::Refusal;
-use pll32::{ClockRecord, Source};
+use pll32::ClockRecord;
 use v1::{Chip, PllPreDiv};
 use v30x::PllSource;
-
-fn source(code: u8) -> Source {
-    if code == 0 { Source::Hsi } else { Source::Hse }
-}
 
 fn v1_pll(q: &mut Query<'_>) -> Option<v1::Pll> {
     let present = q.flag();
@@ -28,7 +24,7 @@ fn v1_config(q: &mut Query<'_>) -> v1::Config {
     v1::Config {
         hse: q.hse(),
         sys: q.byte(),
-        pll_src: source(q.byte()),
+        pll_src: pll32::source_of(q.flag()),
         pll: v1_pll(q),
         ahb_pre: q.byte(),
         apb1_pre: q.byte(),
@@ -51,6 +47,7 @@ fn v1_fields(q: &mut Query<'_>) -> v1::Fields {
 
 // The clocks of a check, and twice the USB divisor.
 fn checked(checked: Result<ClockRecord, Refusal>) -> Reply {
+    // Taken by `let .. else`, as document 01 has the accepted clocks taken.
     let Ok(accepted) = checked else {
         return Reply::numbered(answer::number(checked));
     };
@@ -77,6 +74,7 @@ fn v1_decode(chip: Chip, mut q: Query<'_>) -> Result<Reply, Refusal> {
     Ok(Reply::of_clocks(clocks))
 }
 
+// A code of a query. A C host's has its reader in `capi_v30x`; `v30x` knows neither, so no `From` stands there.
 fn pll_source(code: u8) -> PllSource {
     match code {
         0 => PllSource::Hsi,
@@ -104,7 +102,7 @@ fn v30x_config(q: &mut Query<'_>) -> v30x::Config {
         ahb_pre: q.byte(),
         apb1_pre: q.byte(),
         apb2_pre: q.byte(),
-        hspll_src: source(q.byte()),
+        hspll_src: pll32::source_of(q.flag()),
         hspll: q.code(),
     }
 }
@@ -166,6 +164,7 @@ fn h4_multiplier(mut q: Query<'_>) -> Result<Reply, Refusal> {
     Ok(Reply::of_word(doubled))
 }
 
+// A match, as `answered` in main.rt, which says why.
 pub fn answer(kind: u8, mut q: Query<'_>) -> Result<Reply, Refusal> {
     match kind {
         0x10 => Ok(checked(v1::check(Chip::V1, v1_config(&mut q)))),

@@ -1,4 +1,5 @@
 // Answers binary query records, one after another, for every public call. oracle/README.md has the records to the byte.
+// Its structs are not compared or printed, so they derive Clone and Copy alone.
 #![tactic(auto)]
 
 mod brr;

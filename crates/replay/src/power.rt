@@ -14,7 +14,7 @@ struct Run {
     keyed: u32,
 }
 
-// What stands for the last report before there is one.
+// What stands for the last report before there is one. No Option: the answer has these zeros for it.
 pub const NOTHING: Report = Report::Worked { step: 0, used: 0 };
 
 // The readings that a report counts; those of the startup where it counts none.
@@ -58,7 +58,8 @@ fn put_keys(a: &mut Reply, keyed: u32) {
     for place in 0..4 {
         a.word(if keyed == 0 { 0 } else { key(place) });
     }
-    a.byte((keyed % 256) as u8);
+    // The lowest byte of it.
+    a.byte(keyed.to_be_bytes()[3]);
 }
 
 impl Run {
@@ -143,7 +144,7 @@ fn last_report(q: &mut Query<'_>) -> Option<Report> {
     let used = q.word();
     let last = match number {
         0 => Report::Running { step, used },
-        23 => Report::Refused(23),
+        23 => Report::Refused(Refusal::ClocksDiffer.number()),
         _ => Report::Failed { number, step, used },
     };
     over.then_some(last)

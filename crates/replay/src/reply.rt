@@ -3,7 +3,7 @@ use answer::Refusal;
 use image::Fields;
 use tree::Clocks;
 
-// An answer's bytes, and how many of them are there. The kind and the refusal number come first.
+// An answer's bytes, and how many of them are there. The kind and the refusal number come first. No heap: they are written out whole, with zeros behind the parts.
 #[derive(Clone, Copy)]
 pub struct Reply {
     pub bytes: [u8; 64],

@@ -7,7 +7,8 @@ use answer::Refusal;
 use startup::{Report, Startup};
 use ticks::{Ticked, Waits};
 
-// A run so far: the startup and its ticks, the last report, and the next call's tick.
+// A run so far: the startup and its ticks, the last report, and the next call's tick. Like the run of `power`, but with a tick in each call: one type for both would
+// carry ticks that the other has not.
 #[derive(Clone, Copy)]
 struct Run {
     ticked: Ticked,

@@ -5,6 +5,7 @@ use answer::Refusal;
 
 pub fn check(mut q: Query<'_>) -> Reply {
     let checked = q.config().clocks();
+    // Taken by `let .. else`, as document 01 has the accepted clocks taken.
     let Ok(accepted) = checked else {
         return Reply::numbered(answer::number(checked));
     };
@@ -27,6 +28,7 @@ fn queried(found: Option<u32>) -> Reply {
     a
 }
 
+// This and those below differ in the function called: one for each two would take it as a closure, and be no shorter.
 pub fn adc(mut q: Query<'_>) -> Result<Reply, Refusal> {
     let fields = q.fields();
     let found = decoder::adc_frequency(fields, q.word())?;

@@ -47,7 +47,7 @@ pub fn divisor(pclk: u32, rate: u32) -> Result<(u16, i32), Refusal>
     Ok((brr, error(pclk, rate, brr)))
 }
 
-// The same for a port: bus 1 runs at PCLK1, bus 2 at PCLK2. Refused by 28: another bus; then as `divisor`.
+// The same for a port: bus 1 runs at PCLK1, bus 2 at PCLK2. The bus is a number, since another is refused by 28 (`port_of`); then as `divisor`.
 pub fn port_divisor(clocks: Clocks, bus: u8, rate: u32) -> Result<(u16, i32), Refusal>
     ensures { says result ≡ port_of clocks bus rate }
 {

@@ -165,6 +165,7 @@ fn handed_back(s: Startup) -> Stepped
 fn next(config: Config, step: u8) -> u8
     ensures { result ≡ next_of config step }
 {
+    // Counted by the step before: the one behind 255 is no step. A `find` would say in its closure's contract what the loop's invariant says.
     for before in step..28 {
         let n = before + 1;
         if listed(config, n) {
@@ -192,7 +193,7 @@ fn onward(after: u8, s: Startup, fields: Fields, used: u32) -> Stepped
     }
 }
 
-// The startup is over, with these fields and counts, by this report: the parts of `ended`, which a struct would name a third time.
+// The startup is over, with these fields and counts, by this report. A struct of these would be built for each call and taken apart here.
 fn over(s: Startup, fields: Fields, unmet: u32, used: u32, last: Report) -> Stepped
     ensures { result ≡ ended s fields unmet used last }
 {
@@ -208,8 +209,9 @@ fn over(s: Startup, fields: Fields, unmet: u32, used: u32, last: Report) -> Step
     }
 }
 
-// A reading did not meet the step's wait, which fails at the last of its readings. That its readings are few is asked here and of the two below, and is no
-// invariant of `Startup`: `Startup::step` takes any, and refuses more by 28.
+// A reading did not meet the step's wait, which fails at the last of its readings. That few readings are used is asked here and of the three below
+// (`waited`, `read_back`, `work`). It is no invariant of `Startup`: `Startup::step` takes any, and refuses more by 28; a struct of its own for these four would be
+// made in one place and taken apart in four.
 fn unmet(s: Startup, fields: Fields) -> Stepped
     requires { (s.unmet < 1000000) × (s.used ≤ 8000001) }
     ensures { (after : ℕ) → result ≡ came_to after s fields (cond (ltb (s.unmet + 1) 1000000) waiting missed) }

@@ -22,14 +22,14 @@ pub enum Work {
     Compares(bool),
 }
 
-// Whether USBHS feeds the ADC.
+// Whether USBHS feeds the ADC: a function for the name that its definition has.
 fn from_usbhs(adc: AdcClockSource) -> bool
     ensures { result ≡ from_usb_hs adc }
 {
     matches!(adc, AdcClockSource::UsbHsPll { .. })
 }
 
-// Whether a step is listed and its part is there: steps of absent parts are skipped.
+// Whether a step is listed and its part is there: steps of absent parts are skipped. A match, as in `perform`: document 01's list, a line for each part.
 #[tactic(auto, using(crate::proofs::Shape::listed_by), unfolding(crate::specs::Steps::listed_of))]
 pub fn listed(config: Config, step: u8) -> bool
     ensures { result ≡ listed_of config step }
@@ -45,6 +45,8 @@ pub fn listed(config: Config, step: u8) -> bool
         _ => false,
     }
 }
+
+// The writes. Several set one field each: a field can't be a parameter, and a closure that sets it is no shorter.
 
 fn hsi_on(mut f: Fields) -> Fields
     ensures { result ≡ hsi_on f }
@@ -78,6 +80,7 @@ fn all_off(mut f: Fields) -> Fields
     f
 }
 
+// A function for the name that its definition has.
 fn all_clear(s: Seen) -> bool
     ensures { result ≡ all_clear s }
 {
@@ -122,9 +125,7 @@ fn usbhs_reference(hse: Option<Hse>, source: u8) -> u32
 fn usbhs_code(hse: Option<Hse>, source: u8) -> u8
     ensures { result ≡ code_of hse source }
 {
-    let code = v4x7_rules::reference_code(usbhs_reference(hse, source));
-    // It fits, as is proved; `try_from` would have an error that never comes.
-    code.unwrap_or(0) as u8
+    v4x7_rules::reference_code(usbhs_reference(hse, source)).unwrap_or(0)
 }
 
 fn usbhs_source(mut f: Fields, hse: Option<Hse>, hspll: Option<u8>) -> Fields
@@ -221,7 +222,8 @@ fn agrees(config: Config, promised: Clocks, fields: Fields) -> bool
 }
 
 // What comes of a step with these fields and this reading, the check having promised these clocks. None where no step has this number.
-// A match, and no list of closures: it is document 01's list of the 28 steps, a line for each.
+// A match, and no list of closures: it is document 01's list of the 28 steps, a line for each. A struct of the five parameters would be built for each call and
+// taken apart here.
 #[tactic(auto, unfolding(crate::specs::Steps::work_of))]
 pub fn perform(
     config: Config,

@@ -1,6 +1,7 @@
 // Text in lent bytes: names, numbers and lines are put one after another. Each call takes the place where the text goes, and answers the place after
 // it. Where there is no room for all of a text, nothing of it is put: the answer is None, which is refusal 32, and what is put there is refused too.
 // The place stands beside the bytes: a struct of both would have to be lent in place of the bytes, and its contract say of the bytes behind it what `Placed` says of them.
+// A place may be None: `Placed` says what is put there too, and a `usize` would ask more.
 // `write!` through an impl of `fmt::Write` is no plainer: std says of it neither which bytes stand after a write without room nor where a text ends, and
 // `Placed` says both of every call.
 #![tactic(auto, using(crate::specs::Pieces::refused, crate::specs::Pieces::placed, crate::proofs::Numbers::number_part))]
@@ -9,7 +10,7 @@ ghost use Rattle.std.specs.Prelude.{◌≡◌, ◌+◌, ◌%◌, ◌≤◌, ltb,
 ghost use Rattle.text.specs.Decimal.{decimal, signed};
 ghost use Rattle.text.specs.Text.{line_of, overlaid, Placed};
 
-// Whether n bytes have no room at a place of so many lent ones.
+// Whether n bytes have no room at a place of so many lent ones. `layout` asks the same in numbers of four bytes, since 4 * n may be no usize.
 fn no_room(lent: usize, at: usize, n: usize) -> bool
     ensures { result ≡ ltb lent (at + n) }
 {

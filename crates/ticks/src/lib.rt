@@ -7,8 +7,9 @@ ghost use Rattle.ticks.specs.Ticks.{spent_of, longest_of, has_wait, noted_of, me
 
 use startup::{Reading, Report, Startup};
 
-// The ticks of each wait, by its step: 0 before it is met, and for good where it is skipped or fails.
-#[derive(Clone, Copy, Debug, PartialEq, Eq)]
+// The ticks of each wait, by its step: 0 before it is met, and for good where it is skipped or fails. Fields and no array: `noted_of` and a host name each by its
+// step, and the eight steps don't count on.
+#[derive(Clone, Copy, Debug, Default, PartialEq, Eq)]
 pub struct Waits {
     pub at2: u32,
     pub at4: u32,
@@ -20,9 +21,9 @@ pub struct Waits {
     pub at27: u32,
 }
 
-#[derive(Clone, Copy, Debug, PartialEq, Eq)]
+#[derive(Clone, Copy, Debug, Default, PartialEq, Eq)]
 pub struct Ticks {
-    // The tick of the first reading of the wait whose turn it is, once one was unmet.
+    // The tick of the first reading of the wait whose turn it is, once one was unmet; before, any number (`after_of`).
     pub first: u32,
     pub waits: Waits,
 }
@@ -46,7 +47,7 @@ fn spent(first: u32, tick: u32) -> u32
     tick.wrapping_sub(first)
 }
 
-// Does the step wait?
+// Does the step wait? A function for the name that its definition has.
 fn has_wait(step: u8) -> bool
     ensures { result ≡ has_wait step }
 {
@@ -80,7 +81,7 @@ fn met(t: Ticks, step: u8, first: u32, tick: u32) -> Ticks
     Ticks { waits, ..t }
 }
 
-// Has this report met a wait? Of the steps that it can name, eight have one.
+// Has this report met a wait? Of the steps that it can name, eight have one. A match: a report that came new would have to be thought of here.
 pub fn meets_wait(report: Report) -> bool
     ensures { result ≡ meets_wait report }
 {
@@ -127,19 +128,7 @@ impl Ticked {
     {
         Ticked {
             startup,
-            ticks: Ticks {
-                first: 0,
-                waits: Waits {
-                    at2: 0,
-                    at4: 0,
-                    at7: 0,
-                    at10: 0,
-                    at12: 0,
-                    at15: 0,
-                    at18: 0,
-                    at27: 0,
-                },
-            },
+            ticks: Ticks::default(),
         }
     }
 

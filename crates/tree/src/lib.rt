@@ -51,12 +51,7 @@ pub fn hse_frequency(hse: Option<Hse>) -> Option<u32>
 fn doubling(family: Family) -> bool
     ensures { result ≡ doubles family }
 {
-    match family {
-        Family::V4x7 => true,
-        Family::V1 => true,
-        Family::V30x => true,
-        Family::H4 => false,
-    }
+    family != Family::H4
 }
 
 // A bus that divides HCLK by the divisor of a code: its clock, and its timers'. These go by the divisor and not by comparing the frequencies, which may both be 0.
@@ -75,17 +70,18 @@ fn apb_bus(family: Family, hclk: Frequency, code: u8) -> Result<(Frequency, u32)
     Ok((pclk, tim))
 }
 
-// The clocks of a SYSCLK and an HCLK: the two buses and their timers.
+// The clocks of a SYSCLK and an HCLK: the two buses and their timers. It takes two codes and no `Prescalers`, since AHB's isn't looked at.
 pub fn below_hclk(
     family: Family,
     sysclk: Frequency,
     hclk: Frequency,
-    codes: Prescalers,
+    apb1: u8,
+    apb2: u8,
 ) -> Result<Clocks, Refusal>
-    ensures { says result ≡ below_of family sysclk hclk codes.apb1 codes.apb2 }
+    ensures { says result ≡ below_of family sysclk hclk apb1 apb2 }
 {
-    let (pclk1, pclk1_tim) = apb_bus(family, hclk, codes.apb1)?;
-    let (pclk2, pclk2_tim) = apb_bus(family, hclk, codes.apb2)?;
+    let (pclk1, pclk1_tim) = apb_bus(family, hclk, apb1)?;
+    let (pclk2, pclk2_tim) = apb_bus(family, hclk, apb2)?;
     Ok(Clocks {
         sysclk: sysclk.hz,
         hclk: hclk.hz,
@@ -101,7 +97,7 @@ pub fn bus_clocks(family: Family, sysclk: Frequency, codes: Prescalers) -> Resul
     ensures { says result ≡ clocks_of family sysclk codes.ahb codes.apb1 codes.apb2 }
 {
     let hclk = divider::by_ahb(family, sysclk, codes.ahb)?;
-    below_hclk(family, sysclk, hclk, codes)
+    below_hclk(family, sysclk, hclk, codes.apb1, codes.apb2)
 }
 
 // What a PLL makes of its input, by its multiplier doubled: the product first, then the half.

@@ -31,7 +31,7 @@ pub struct Pll {
     pub mul: u8,
 }
 
-// A configuration. `sys` and the prescalers are the codes of their fields.
+// A configuration. `sys` and the prescalers are the codes of their fields: numbers, since one too wide is refused by 28 (`check_of`).
 #[derive(Clone, Copy, Debug, PartialEq, Eq)]
 pub struct Config {
     pub hse: Option<Hse>,
@@ -97,7 +97,7 @@ impl Fields {
     }
 }
 
-// The code of a predivider: the divisor less one.
+// The code of a predivider: the divisor less one, which is its discriminant.
 fn prediv_code(prediv: PllPreDiv) -> u8
     ensures { result ≡ prediv_code prediv }
 {
@@ -171,6 +171,7 @@ fn pll_fields(source: Source, pll: Option<Pll>, earlier: Fields) -> Fields
     let Some(Pll { prediv, mul }) = pll else {
         return earlier;
     };
+    // By its code, as the bits have it.
     let code = prediv_code(prediv);
     match source {
         Source::Hsi => Fields {

@@ -26,7 +26,7 @@ pub struct Pll {
     pub mul: u8,
 }
 
-// A configuration. `sys` and the prescalers are the codes of their fields, `hspll` is that of the USBHS PLL's prescaler (`HsPllPrescaler`, the divisor less one).
+// A configuration. `sys` and the prescalers are the codes of their fields, numbers, since one too wide is refused by 28 (`check_of`); `hspll` is that of the USBHS PLL's prescaler (`HsPllPrescaler`, the divisor less one).
 // PLL2 and PLL3 are not taken, so nothing of them is kept but that they are asked for (`pllx`), which is refused.
 #[derive(Clone, Copy, Debug, PartialEq, Eq)]
 pub struct Config {

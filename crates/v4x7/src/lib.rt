@@ -18,7 +18,8 @@ pub enum AdcClockSource {
     UsbHsPll { divisor: u8 },
 }
 
-// A configuration. Parts that it may lack are options, a PLL with its one code; every other choice is the number that the Rust's enum has for it.
+// A configuration. Parts that it may lack are options, a PLL with its one code; every other choice is the number that the Rust's enum has for it, and no enum: a
+// number without a name is refused by 28 (`check_of`).
 #[derive(Clone, Copy, Debug, PartialEq, Eq)]
 pub struct Config {
     pub hse: Option<Hse>,
@@ -114,7 +115,7 @@ pub fn named_codes(c: Config) -> bool
         && c.adc_duty <= 2
 }
 
-// The RNG's PLL is configured; SYSCLK needs none.
+// The RNG's PLL is configured; SYSCLK needs none. This and those below take the parts that their definitions take; `Config`, which holds them, would hide which.
 fn rng(source: u8, hspll: Option<u8>, ethpll: bool) -> Result<(), Refusal>
     ensures { says result ≡ rng_of source hspll ethpll }
 {
@@ -206,7 +207,7 @@ fn syspll_input(
 ) -> Result<Frequency, Refusal>
     ensures { says result ≡ sys_pll_input_of main hspll ethpll source }
 {
-    // From the main PLL, whose output says itself whether there is one.
+    // From the main PLL, whose output says itself whether there is one. Answered first, which saves a check up to 11 instructions (docs/BENCHMARKS.md).
     if source == 6 {
         return v4x7_rules::syspll_input(source, main);
     }

@@ -80,7 +80,7 @@ pub fn eth_pll(hse: Option<u32>) -> Result<(), Refusal>
 }
 
 // The code of a reference that the USBHS PLL takes.
-pub fn reference_code(hz: u32) -> Result<u32, Refusal>
+pub fn reference_code(hz: u32) -> Result<u8, Refusal>
     ensures { says result ≡ reference_code_of hz }
 {
     match hz {
@@ -100,7 +100,7 @@ fn two_thirds(hz: u32) -> Frequency
     divider::by_one_more(divider::hertz(hz * 2), 2)
 }
 
-// The main PLL's output, where there is one.
+// The main PLL's output, where there is one. `pll32` has such a line with a refusal of its own.
 fn main_output(main: Option<Frequency>) -> Result<Frequency, Refusal>
     ensures { says result ≡ main_output main }
 {
@@ -135,7 +135,8 @@ pub fn bus_clocks(sysclk: Frequency, codes: Prescalers) -> Result<Clocks, Refusa
     Ok(clocks)
 }
 
-// The ADC's whole divisor: its source's own, APB2's, and 2, 4, 6 or 8.
+// The ADC's whole divisor: its source's own, APB2's, and 2, 4, 6 or 8. The codes go one by one here and in the two below, as `total_of` and its callers take them: a
+// struct of two would be made in each of four calls.
 fn adc_divisor(first: u32, ppre2: u8, adcpre: u8) -> Result<u32, Refusal>
     requires { first ≤ 512 }
     ensures { says result ≡ total_of first ppre2 adcpre }

@@ -1,4 +1,5 @@
-// The calls for C and Rust, under the names of include/wontabeli.h: each hands its arguments to the function of a capi crate, whose clauses it has.
+// The calls for C and Rust, under the names of include/wontabeli.h: each hands its arguments to the function of a capi crate, whose clauses it has. A library exports
+// nothing to C, so they stand here once more.
 #![tactic(auto)]
 
 mod codec_calls;
