@@ -95,6 +95,15 @@ fn begin(p: &[u8], i: &[u8]) -> Result<Startup, Refusal>
     Startup::start(config, fields)
 }
 
+// Copies N bytes. How many is known when this is compiled, so that the archive needs no `memmove` from outside.
+fn keep<const N: usize>(from: &[u8], part: &mut [u8])
+    requires from { length from.now ≡ N }
+    requires part { length part.old ≡ N }
+    ensures { part.new ≡ from.now }
+{
+    part[..N].copy_from_slice(&from[..N]);
+}
+
 // Starts a startup with a profile of ten bytes and the image of the registers as they are, eight bytes, and keeps it in the place's first 72 bytes.
 // Refused by 32, 29, 30, 31, then by the check's 1 to 16; the place then stays as it was.
 #[tactic(auto, using(crate::proofs::Starting::profile_size, crate::proofs::Starting::image_size), unfolding(crate::specs::Calls::start_bytes))]
@@ -110,8 +119,8 @@ pub extern "C" fn wontabeli_start(p: &[u8], i: &[u8], place: &mut [u8]) -> u8
         Ok(startup) => {
             let ticked = Ticked::begin(startup);
             let report = Report::Worked { step: 0, used: 0 };
-            place[..PLACE_IMAGE].copy_from_slice(p);
-            place[PLACE_IMAGE..PLACE_STEP].copy_from_slice(i);
+            keep::<10>(p, &mut place[..PLACE_IMAGE]);
+            keep::<8>(i, &mut place[PLACE_IMAGE..PLACE_STEP]);
             lay_counts(startup, report, &mut place[PLACE_STEP..PLACE_FIRST_TICK]);
             lay_ticks(ticked.ticks, &mut place[PLACE_FIRST_TICK..PLACE_SIZE]);
             0
