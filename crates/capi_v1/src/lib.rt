@@ -73,6 +73,8 @@ fn is_config(b: &[u8; V1_CONFIG_SIZE]) -> bool
 
 // A configuration's record, or 28.
 // Not one generic function with `read_fields`: it would take the test and the reader as closures, each with its clause, and be no shorter.
+// Inlined, as are `v1::check` and `pll32::pll_output`: else a check hands the configuration through memory (docs/BENCHMARKS.md).
+#[inline]
 fn read_config(bytes: &[u8]) -> Result<Config, Refusal>
     ensures { says result ≡ record_in (is_config bytes.now) (config_of bytes.now) }
 {

@@ -142,6 +142,7 @@ fn multiplied(part: Part, input: Frequency, mul: u8) -> Result<Frequency, Refusa
 }
 
 // What a PLL makes of its source. Part and HSE go beside each other here and below: nothing in the documents joins the two.
+#[inline]
 pub fn pll_output(part: Part, hse: Option<u32>, setting: Setting) -> Result<Frequency, Refusal>
     ensures { says result ≡ pll_output_of part hse setting }
 {

@@ -55,12 +55,17 @@ fn reading(s: Startup, failing: u8) -> Reading {
     }
 }
 
+// Asked of the whole startup, which then stays in one piece from call to call (docs/BENCHMARKS.md).
+fn is_over(s: Startup) -> bool {
+    s.over.is_some()
+}
+
 // As many calls as the bound allows.
 fn run(begun: Startup, failing: u8) -> Startup {
     let mut s = begun;
-    for _ in 0..startup::call_bound(begun.config).unwrap_or(0) {
-        if s.over.is_some() {
-            break;
+    for _ in 0..startup::call_bound(s.config).unwrap_or(0) {
+        if is_over(s) {
+            return s;
         }
         s = s.step(reading(s, failing)).startup;
     }

@@ -138,6 +138,7 @@ fn configured_pll(
 }
 
 // The check of a configuration: its clocks and the USB divisor, or the first refusal in document 01's order.
+#[inline(always)]
 pub fn check(chip: Chip, config: Config) -> Result<ClockRecord, Refusal>
     ensures { says result ≡ check_of chip config }
 {
